@@ -19,7 +19,7 @@ use std::io::ErrorKind;
 use std::process::ExitCode;
 use std::rt::Runtime;
 
-const VERSION: &str = "jpgsuite 1.12.0\n";
+const VERSION: &str = "jpgsuite 1.13.0\n";
 
 static ABOUT: [&str; 1] = [VERSION];
 

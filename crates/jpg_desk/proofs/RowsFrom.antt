@@ -25,7 +25,7 @@ use Rattle.jpg_spec_words.specs.declared.answers.Why.TheVariants as why
 use Rattle.jpg_file.specs.Read.File.{keeping_of}
 use Rattle.jpg_file.specs.Read.ReadFile.{ReaderState, HasBegunRows, picture_read}
 use Rattle.jpg_file.specs.Read.Strips.{TellsStrip, RepresentsRows, RowsAfter, RowsInside}
-use Rattle.jpg_file.specs.declared.read.file.FileWork.{FileWork}
+use Rattle.jpg_file.specs.declared.read.file.FileState.{FileState}
 use Rattle.jpg_file.specs.declared.read.pieces.FedRow.{FedRow}
 use Rattle.jpg_file.specs.declared.read.pieces.FedRow.TheVariants as fed
 use Rattle.jpg_file.specs.declared.read.rows.RowWork.{RowWork}
@@ -52,7 +52,7 @@ use Rattle.jpg_desk.proofs.RowsTo.{same_goal}
 -- COUNTS
 
 -- the bytes that were taken are counted
-taken_by_row : {limits : Limits} {bytes : List ℕ} {w : FileWork} {rows : RowWork} → RepresentsRows limits bytes w rows → w.taken ≡ length bytes
+taken_by_row : {limits : Limits} {bytes : List ℕ} {w : FileState} {rows : RowWork} → RepresentsRows limits bytes w rows → w.taken ≡ length bytes
 taken_by_row {limits} {bytes} {w} {rows} h = by h.at
   where
     by : RowsInside limits bytes w rows h.whole ⊎ RowsAfter limits bytes w rows h.whole → w.taken ≡ length bytes

@@ -3,8 +3,8 @@ pub mod RowTurns
 pub mod RowsAnswered
 pub mod RowsGiven
 pub mod RowsPlaced
-pub mod RowsRead
 pub mod StripBegin
 pub mod StripBytes
 pub mod StripRows
 pub mod StripWorks
+pub mod WindowBytes

@@ -1,3 +1,2 @@
 pub mod FewSymbols
-pub mod ScanData
 pub mod ScansDue

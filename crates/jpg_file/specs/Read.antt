@@ -14,3 +14,4 @@ pub mod ScanStart
 pub mod SegmentState
 pub mod Step
 pub mod Strips
+pub mod Window

@@ -1,6 +1,5 @@
 //! A file read piece by piece (T.81, B.2.1).
 
-pub mod blocks;
 pub mod ends;
 pub mod file;
 pub mod first_header;
@@ -18,4 +17,4 @@ pub mod scan_start;
 pub mod segment_state;
 pub mod step;
 pub mod strip_head;
-pub mod strip_work;
+pub mod window;

@@ -5,7 +5,6 @@ ghost use Rattle.jpg_spec.specs.Markers.{Segment};
 ghost use Rattle.jpg_base.specs.declared.stop.Stop.{Stop as Stopped};
 ghost use Rattle.jpg_base.specs.declared.stop.Stop.TheVariants as stop;
 ghost use Rattle.jpg_markers.specs.declared.segments.Phase.TheVariants as phase;
-ghost use Rattle.jpg_markers.specs.Reading.{reading_of, AfterWhole, RepresentsSegments, Continues, Comes, PassesSome, MayFollow, PassesSegment, Goes, HasRoom, IsAfterScan, HaltsNot, HasMemory, NeedsMemory, Stays, ComesWith, GoesWith, GoesWhole};
 
 use crate::seen::{Seen, code_fault, is_frame_code};
 use crate::whole::{WholeSegment, fill_length};
@@ -56,6 +55,7 @@ const LONGEST: usize = 65533;
 pub struct SegmentReader {
     // The limits of the input.
     limits: Limits,
+    ghost limited: { AreLimits limits },
     // How many bytes of the input were taken, those of scan data among them.
     taken: u64,
     // Where the next byte is.
@@ -75,6 +75,8 @@ pub struct SegmentReader {
 }
 
 impl SegmentReader {
+    ghost use Rattle.jpg_markers.specs.Reading.{reading_of, AfterWhole, RepresentsSegments, Continues, Comes, PassesSome, MayFollow, PassesSegment, Goes, HasRoom, IsAfterScan, HaltsNot, HasMemory, NeedsMemory, Stays, ComesWith, GoesWith, GoesWhole};
+
     /// A reader that was given no bytes. It takes no memory yet.
     pub fn new(alloc: Global, limits: Limits) -> SegmentReader
         requires { AreLimits limits }
@@ -271,6 +273,15 @@ impl SegmentReader {
         ensures { result.now ≡ (reading_of self.now).contents }
     {
         self.contents.as_slice()
+    }
+
+    /// The limits of the input.
+    #[inline]
+    pub fn limits(&self) -> Limits
+        ensures is { result ≡ (reading_of self.now).limits }
+        ensures limited { AreLimits result }
+    {
+        self.limits
     }
 
     /// How many bytes of the input were taken, those of scan data among them.

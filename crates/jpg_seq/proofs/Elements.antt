@@ -1,9 +1,7 @@
 -- Values within bounds, as tests.
-use Rattle.std.proofs.Common.{◌≡◌, ℕ, zero, suc, ◌-◌, ◌^◌, ◌<◌, ◌≤◌, Bool, true, false, [], ◌∷◌, refl, ap, ◌∙◌, arith, ℤ, pos, ◌≤ℤ◌, ◌&&◌, inl, inr, int_le, nat_abs, nat_lt, nat_le, ◌||◌, ◌==◌, ◌%◌, ◌/◌, ◌+◌, List, ◌++◌, length, sym, subst, ◌*ℤ◌, ◌+ℤ◌, ⊎_elim, min, append-nil, length-append, ◌*◌, Contains, take, drop, set, length-set, length-take-le, drop-drop, take-append-drop, get_or, append_assoc, length-drop}
+use Rattle.std.proofs.Common.{pow_mono, ◌≡◌, ℕ, zero, suc, ◌-◌, ◌^◌, ◌<◌, ◌≤◌, Bool, true, false, [], ◌∷◌, refl, ap, ◌∙◌, arith, ℤ, pos, ◌≤ℤ◌, ◌&&◌, inl, inr, int_le, nat_abs, nat_lt, nat_le, ◌||◌, ◌==◌, ◌%◌, ◌/◌, ◌+◌, List, ◌++◌, length, sym, subst, ◌*ℤ◌, ◌+ℤ◌, ⊎_elim, min, append-nil, length-append, ◌*◌, Contains, take, drop, set, length-set, length-take-le, drop-drop, take-append-drop, take-add, drop-set-lt, get_or, append_assoc, length-drop, pow_pos}
 use Rattle.std.proofs.lemmas.Int.{ints}
 use Rattle.std.proofs.lemmas.Bool.Decides.{nat_tests}
-use Rattle.std.proofs.Math.Nat.{pow-le-pow_right}
-use Rattle.std.proofs.lemmas.Nat.{pow_pos}
 use Rattle.jpg_spec.specs.Numbers.{category, extra_bits, digits}
 use Rattle.jpg_spec.specs.Elements.{Coding, are_in_bounds, zeros, Element, difference, value, long_run, ends, UnitLeft, Standing, Covers, Tells, SpellsElement, codes_due, going_on, predictions_after, zeros_in, nonzeros_in, corrected, scaled, new_unit, predicted, symbol_of, bits_after}
 use Rattle.jpg_spec.specs.ScanFaults.{is_symbol, BitsShow}
@@ -18,8 +16,7 @@ use Rattle.jpg_spec.specs.Codes.{Code}
 use Rattle.jpg_spec.proofs.Bits.Values.{going_same}
 use Rattle.jpg_spec.proofs.Basics.Small.{one_digit}
 use Rattle.jpg_spec.specs.declared.fault.Fault.TheVariants as fault
-use Rattle.std.proofs.Math.Seq.{take-append-add}
-use Rattle.std.proofs.lemmas.Grind.{take-set_at, drop-set_at}
+use Rattle.std.proofs.lemmas.Grind.{take-set_at}
 use Rattle.jpg_spec.specs.Bits.{bits_of}
 use Rattle.jpg_huff.specs.Walk.{BeginsNoCode}
 use Rattle.jpg_spec.specs.Parts.{IsFront, PartOfElement, in_code, in_difference, in_number}
@@ -39,19 +36,16 @@ pub first_out : (c : Coding) (b : Bounds) (v : ℤ) → c.bounds ≡ b → (InRa
 first_out c b v e h =
     ap (λ (x : Bounds). (int_le x.dc_low v && int_le v x.dc_high) && true) e ∙ both_false _ _ (λ t. h (from_test _ _ t.0, from_test _ _ t.1))
 
-most_positive : (b : Bounds) → AreSane b → pos 0 ≤ℤ b.ac
-most_positive b sane = omega (arith, ints, sane.ac, pow_pos b.ac_cat)
-
 pub zeros_in_bounds : (c : Coding) (b : Bounds) (n : ℕ) → c.bounds ≡ b → AreSane b → are_in_bounds c.bounds false (zeros n) ≡ true
 zeros_in_bounds c b zero e sane = refl
 zeros_in_bounds c b (suc n) e sane =
-    and_intro (int_le (pos 0) c.bounds.ac) (are_in_bounds c.bounds false (zeros n)) (ap (λ (x : Bounds). int_le (pos 0) x.ac) e ∙ in_order (pos 0) b.ac (most_positive b sane)) (zeros_in_bounds c b n e sane)
+    and_intro (int_le (pos 0) c.bounds.ac) (are_in_bounds c.bounds false (zeros n)) (ap (λ (x : Bounds). int_le (pos 0) x.ac) e ∙ in_order (pos 0) b.ac (omega (arith, ints, sane.ac, pow_pos b.ac_cat))) (zeros_in_bounds c b n e sane)
 
 -- a value of an allowed category is in the bounds
 pub value_in_bounds : (c : Coding) (b : Bounds) (v : ℤ) → c.bounds ≡ b → AreSane b → category v ≤ b.ac_cat → are_in_bounds c.bounds false (v ∷ []) ≡ true
 value_in_bounds c b v e sane few =
     let l = below_digits (nat_abs v) in
-    let m : 2 ^ category v ≤ 2 ^ b.ac_cat = pow-le-pow_right {n = 2} (omega arith) {i = category v} {j = b.ac_cat} few in
+    let m : 2 ^ category v ≤ 2 ^ b.ac_cat = pow_mono few in
     let n : nat_abs v ≤ 2 ^ b.ac_cat - 1 = omega (arith, l, m) in
     let o : pos (nat_abs v) ≤ℤ b.ac = omega (arith, ints, n, sane.ac) in
     and_intro (int_le (pos (nat_abs v)) c.bounds.ac) true (ap (λ (x : Bounds). int_le (pos (nat_abs v)) x.ac) e ∙ in_order (pos (nat_abs v)) b.ac o) refl
@@ -148,39 +142,32 @@ abbrev passed : List ℤ
 passed = zeros 15 ++ pos 0 ∷ []
 
 pub run_tells : (c : Coding) (b : Bounds) (dc ac : List Code) (i n : ℕ) → IsCodingOf b dc ac c i → AreSane b → TellsHere c i n (long_run []) (zeros (min 16 n))
-run_tells c b dc ac i n k sane = (tells, zeros_in_bounds c b (min 16 n) k.bounds sane, λ p. refl)
-  where
-    none : nonzeros_in passed ≡ 0
-    none = nonzeros_in_zeros 16
-
-    enough : (others : List UnitLeft) (q : ℤ) → 15 < n → Tells c q (long_run []) (open_unit i (zeros n)) others (zeros (min 16 n)) (going_on (open_unit i []) (zeros (n - length (zeros (min 16 n)))) others)
-    enough others q h =
-        let m : min 16 n ≡ 16 = omega arith in
-        let e : n - length (zeros (min 16 n)) ≡ n - 15 - 1 = omega (arith, length-replicate (min 16 n) (pos 0)) in (
-          passed,
-          zeros (n - 15 - 1),
-          refl,
-          inl (zeros 15, zeros_split n 15 h, zeros_in_zeros 15, refl),
-          none,
-          ap zeros m ∙ sym (uncorrected c.al passed),
-          ap (λ m. going_on (open_unit i []) (zeros m) others) e ∙ going_same (open_unit i []) (open_unit i (zeros n)) refl (zeros (n - 15 - 1)) others,
-        )
-
-    few : (others : List UnitLeft) (q : ℤ) → n ≤ 15 → Tells c q (long_run []) (open_unit i (zeros n)) others (zeros (min 16 n)) (going_on (open_unit i []) (zeros (n - length (zeros (min 16 n)))) others)
-    few others q h =
-        let m : min 16 n ≡ n = omega arith in
-        let e : n - length (zeros (min 16 n)) ≡ 0 = omega (arith, length-replicate (min 16 n) (pos 0)) in (
-          zeros n,
-          [],
-          refl,
-          inr (refl, omega (arith, zeros_in_zeros n), refl),
-          nonzeros_in_zeros n,
-          ap zeros m ∙ sym (uncorrected c.al (zeros n)),
-          ap (λ m. going_on (open_unit i []) (zeros m) others) e,
-        )
-
-    tells : (q : ℤ) (others : List UnitLeft) → Tells c q (long_run []) (open_unit i (zeros n)) others (zeros (min 16 n)) (going_on (open_unit i []) (zeros (n - length (zeros (min 16 n)))) others)
-    tells q others = ⊎_elim (λ (h : 15 < n). enough others q h) (λ (h : n ≤ 15). few others q h) (cases_lt 15 n)
+run_tells c b dc ac i n k sane = (
+  λ q others. ⊎_elim
+      (λ (h : 15 < n). (let m : min 16 n ≡ 16 = omega arith in
+      let e : n - length (zeros (min 16 n)) ≡ n - 15 - 1 = omega (arith, length-replicate (min 16 n) (pos 0)) in (
+        passed,
+        zeros (n - 15 - 1),
+        refl,
+        inl (zeros 15, zeros_split n 15 h, zeros_in_zeros 15, refl),
+        nonzeros_in_zeros 16,
+        ap zeros m ∙ sym (uncorrected c.al passed),
+        ap (λ m. going_on (open_unit i []) (zeros m) others) e ∙ going_same (open_unit i []) (open_unit i (zeros n)) refl (zeros (n - 15 - 1)) others,
+      )))
+      (λ (h : n ≤ 15). (let m : min 16 n ≡ n = omega arith in
+      let e : n - length (zeros (min 16 n)) ≡ 0 = omega (arith, length-replicate (min 16 n) (pos 0)) in (
+        zeros n,
+        [],
+        refl,
+        inr (refl, omega (arith, zeros_in_zeros n), refl),
+        nonzeros_in_zeros n,
+        ap zeros m ∙ sym (uncorrected c.al (zeros n)),
+        ap (λ m. going_on (open_unit i []) (zeros m) others) e,
+      )))
+      (cases_lt 15 n),
+  zeros_in_bounds c b (min 16 n) k.bounds sane,
+  λ p. refl,
+)
 
 pub end_tells : (c : Coding) (b : Bounds) (dc ac : List Code) (i n : ℕ) → IsCodingOf b dc ac c i → AreSane b → TellsHere c i n (ends 1 []) (zeros n)
 end_tells c b dc ac i n k sane =
@@ -230,11 +217,6 @@ module _ {c : Coding} {b : Bounds} {dc ac : List Code} {i : ℕ} (k : IsCodingOf
 
 -- Values that are covered one after another.
 
-pub take_join : {A : Type 0} (m n : ℕ) (xs : List A) → m ≤ length xs → take (m + n) xs ≡ take m xs ++ take n (drop m xs)
-take_join m n xs h =
-    let l : length (take m xs) ≡ m = length-take-le m xs h in
-    sym (ap (λ z. take (m + n) z) (take-append-drop m xs)) ∙ ap (λ k. take (k + n) (take m xs ++ drop m xs)) (sym l) ∙ take-append-add (take m xs) (drop m xs) n
-
 pub cover_rest : (values : List ℤ) (at n : ℕ) → at + n ≤ 64 → drop at values ≡ zeros (64 - at) → drop (at + n) values ≡ zeros (64 - (at + n))
 cover_rest values at n h e =
     let m : 64 - at - n ≡ 64 - (at + n) = omega arith in
@@ -242,22 +224,12 @@ cover_rest values at n h e =
 
 pub cover_values : (values : List ℤ) (at n : ℕ) → length values ≡ 64 → at + n ≤ 64 → drop at values ≡ zeros (64 - at) → take (at + n) values ≡ take at values ++ zeros n
 cover_values values at n len h e =
-    take_join at n values (omega arith) ∙ ap (λ d. take at values ++ take n d) e ∙ ap (λ d. take at values ++ d) (take-replicate n (64 - at) (pos 0) (omega arith))
+    take-add at n values ∙ ap (λ d. take at values ++ take n d) e ∙ ap (λ d. take at values ++ d) (take-replicate n (64 - at) (pos 0) (omega arith))
 
 pub place_values : (values : List ℤ) (at run : ℕ) (v : ℤ) → length values ≡ 64 → at + run < 64 → drop at values ≡ zeros (64 - at)
     → take (at + (run + 1)) (set values (at + run) v) ≡ take at values ++ zeros run ++ v ∷ []
 place_values values at run v len h e =
     take-set_at values (at + run) (at + (run + 1)) v (omega arith) (omega arith) ∙ ap (λ d. d ++ v ∷ []) (cover_values _ _ _ len (omega arith) e)
-
-pub place_rest : (values : List ℤ) (at run : ℕ) (v : ℤ) → length values ≡ 64 → at + run < 64 → drop at values ≡ zeros (64 - at)
-    → drop (at + (run + 1)) (set values (at + run) v) ≡ zeros (64 - (at + (run + 1)))
-place_rest values at run v len h e =
-    let n : at + (run + 1) ≡ at + run + 1 = omega arith in
-    ap (λ k. drop k (set values (at + run) v)) n
-    ∙ sym (drop-drop 1 (at + run) (set values (at + run) v))
-    ∙ ap (drop 1) (drop-set_at values (at + run) (at + run) v refl (omega arith))
-    ∙ ap (λ k. drop k values) (sym n)
-    ∙ cover_rest values at (run + 1) (omega arith) e
 
 -- the same, where bits wait
 pub covered_so_far : (values : List ℤ) (at n : ℕ) (part : List Bool) → IsBlockSoFar values at part → at + n ≤ 64 → IsBlockSoFar values (at + n) part
@@ -268,7 +240,7 @@ placed_so_far values new at run v part k h e =
     record {
       whole = ap length e ∙ length-set values (at + run) v ∙ k.whole;
       at_most = omega arith;
-      rest = ap (drop (at + (run + 1))) e ∙ place_rest values at run v k.whole h k.rest;
+      rest = ap (drop (at + (run + 1))) e ∙ drop-set-lt (at + (run + 1)) values (at + run) v (omega arith) ∙ cover_rest values at (run + 1) (omega arith) k.rest;
       few = k.few;
     }
 
@@ -296,20 +268,28 @@ code_front e values code x y c s h =
     let k = some_of y h in
     inr (inl (code, k.0, k.1, c, s ∙ ap (λ z. x ++ z) k.2))
 
+-- each prefix of a part is one
+pub part_front : (e : Env) (values : List ℤ) (x z : List Bool) → IsPartOf e values (x ++ z) → IsPartOf e values x
+part_front e values x z (inl n) = inl (nil x z n)
+  where
+    nil : (x z : List Bool) → x ++ z ≡ [] → x ≡ []
+    nil [] z h = refl
+    nil (b ∷ x) z h = absurd cc
+part_front e values x z (inr (inl b)) = code_front e values b.0 x (z ++ b.1 ∷ b.2) b.3 (b.4 ∙ append_assoc x z (b.1 ∷ b.2)) (omega (arith, length-append z (b.1 ∷ b.2)))
+part_front e values x z (inr (inr t)) =
+    ⊎_elim
+    (λ (a : length x < length t.0). (let k = cut x z t.0 t.1 t.5 (omega arith) in code_front e values (t.0, 16 * t.2 + t.3) x k.0 t.4 k.1 (omega (arith, ap length k.1, length-append x k.0))))
+    (λ (a : length t.0 ≤ length x). (let k = cut t.0 t.1 x z (sym t.5) a in inr (inr (t.0, k.0, t.2, t.3, t.4, k.1, omega (arith, t.6, ap length k.2, length-append k.0 z), t.7))))
+    (cases_lt (length x) (length t.0))
+
 pub front_fronts : (e : Env) (values : List ℤ) (bits : List Bool) (next : Bool) → IsFront (next_codes e values) bits → FrontsAre e values (bits ++ next ∷ [])
 front_fronts e values bits next f x y s h =
-    let l = ap length s ∙ length-append x y in
-    let m = length-append bits (next ∷ []) in
-    let k = cut x y bits (next ∷ []) (sym s) (omega arith) in
-    by f k.0 k.1
+    let k = cut x y bits (next ∷ []) (sym s) (omega (arith, ap length s, length-append x y, length-append bits (next ∷ []))) in
+    part_front e values x k.0 (subst (IsPartOf e values) k.1 (of f))
   where
-    by : IsFront (next_codes e values) bits → (r : List Bool) → bits ≡ x ++ r → IsPartOf e values x
-    by (inl n) r q = inl (nil_front x r (sym q ∙ n))
-      where
-        nil_front : (x r : List Bool) → x ++ r ≡ [] → x ≡ []
-        nil_front [] r e = refl
-        nil_front (b ∷ x) r e = absurd cc
-    by (inr b) r q = code_front e values b.0 x (r ++ b.1 ∷ b.2) b.3 (b.4 ∙ ap (λ z. z ++ b.1 ∷ b.2) q ∙ append_assoc x r (b.1 ∷ b.2)) (omega (arith, length-append r (b.1 ∷ b.2)))
+    of : IsFront (next_codes e values) bits → IsPartOf e values bits
+    of (inl n) = inl n
+    of (inr b) = inr (inl b)
 
 -- NO PART BEGINS WITH
 
@@ -419,9 +399,9 @@ pub record IsAcCode (e : Env) (values : List ℤ) (code : List Bool) (symbol : �
   pub less : length values < 64
   pub is : IsNextCode e values code symbol
 
-pub ac_code : (e : Env) (values : List ℤ) (bits : List Bool) (n symbol : ℕ) → AreSane e.bounds → huff_laws.AreApart e.ac → 1 ≤ length values → length values < 64 → 1 ≤ n → n ≤ length bits → Contains e.ac (take n bits, symbol)
+pub ac_code : {e : Env} {values : List ℤ} (bits : List Bool) (n symbol : ℕ) → AreSane e.bounds → huff_laws.AreApart e.ac → 1 ≤ length values → length values < 64 → 1 ≤ n → n ≤ length bits → Contains e.ac (take n bits, symbol)
     → IsAcCode e values (take n bits) symbol
-ac_code e values bits n symbol sane apart some less low high c = record { sane = sane; later = some; less = less; is = of values some }
+ac_code {e} {values} bits n symbol sane apart some less low high c = record { sane = sane; later = some; less = less; is = of values some }
   where
     of : (values : List ℤ) → 1 ≤ length values → IsNextCode e values (take n bits) symbol
     of [] h = absurd (omega arith)
@@ -581,7 +561,7 @@ first_comes e bits n size number d next apart low there c few cat x m first = by
     l = length-take-le size (drop n bits) (omega (arith, there, length-drop n bits))
 
     joined : (q : ℕ) → q ≡ number → take n bits ++ take size (drop n bits) ≡ take q bits
-    joined q e = sym (ap (λ z. take z bits) (e ∙ m) ∙ take_join n size bits (omega (arith, there)))
+    joined q e = sym (ap (λ z. take z bits) (e ∙ m) ∙ take-add n size bits)
 
     by : (next : NextElement) → IsFirstValue e d number next → IsNextElement e [] bits next
     by Part first = absurd first
@@ -597,7 +577,7 @@ pub value_taken : {e : Env} {values : List ℤ} (bits : List Bool) (n run size :
     → category v ≡ size → extra_bits v ≡ take size (drop n bits) → IsElement e values (take (n + size) bits) (zeros run ++ v ∷ [])
 value_taken {e} {values} bits n run size v k there low high room few cat x =
     let l : length (take size (drop n bits)) ≡ size = length-take-le size (drop n bits) (omega (arith, length-drop n bits)) in
-    subst (λ b. IsElement e values b (zeros run ++ v ∷ [])) (sym (take_join n size bits (omega arith))) (value_element k (take size (drop n bits)) run size v refl low high room few cat x l)
+    subst (λ b. IsElement e values b (zeros run ++ v ∷ [])) (sym (take-add n size bits)) (value_element k (take size (drop n bits)) run size v refl low high room few cat x l)
 
 -- A part of an element of a sequential unit, in the terms of all kinds of scan.
 

@@ -1,5 +1,5 @@
 -- The coding of a scan by the tables of a set.
-use Rattle.std.proofs.Common.{◌≡◌, ℕ, ◌+◌, ◌*◌, ◌^◌, true, cond, List, [], ◌∷◌, length, refl, ap, subst, arith, Option, Some, None, ◌==◌, nat_lt, option_map, zero, suc, ◌<◌, ◌≤◌, false, map, set, get_or, sym, ◌∙◌, ⊎_elim, ◌&&◌, slice_get, slice_index_or, length-set, get_or-set_same, get_or-set_other, All, ◌-◌, Bool, ◌++◌, drop, ℤ, pos, inl, inr, nat_le, take, slice_set, Ok, Err, append_assoc, append-nil, take_all, flat_map, get_or-drop, get_or-take, length-take, le-div_iff_mul-le, div-lt_iff_lt-mul}
+use Rattle.std.proofs.Common.{◌≡◌, ℕ, ◌+◌, ◌*◌, ◌^◌, true, cond, List, [], ◌∷◌, length, refl, ap, subst, arith, Option, Some, None, ◌==◌, nat_lt, option_map, zero, suc, ◌<◌, ◌≤◌, false, map, set, get_or, sym, ◌∙◌, ⊎_elim, ◌&&◌, slice_get, slice_index_or, length-set, get_or-set_same, get_or-set_other, All, ◌-◌, Bool, ◌++◌, drop, ℤ, pos, inl, inr, nat_le, le-leb, take, slice_set, Ok, Err, append_assoc, append-nil, take_all, flat_map, get_or-drop, get_or-take, length-take, le-div_iff_mul-le, div-lt_iff_lt-mul}
 use Rattle.std.proofs.lemmas.Bool.Decides.{nat_tests}
 use Rattle.jpg_spec.specs.Codes.{AreCodes, are_codes}
 use Rattle.jpg_spec.specs.Segments.{HuffmanTable, ScanHead, head_components}
@@ -9,7 +9,7 @@ use Rattle.jpg_spec.proofs.Basics.Common.{and_intro, some_once, clash, part_more
 use Rattle.jpg_huff.specs.declared.table.Table.{Table}
 use Rattle.jpg_huff.specs.declared.set.TableSet.{TableSet}
 use Rattle.jpg_huff.specs.Sets.{dc_tables, ac_tables, in_slot}
-use Rattle.jpg_huff.specs.Tables.{table_of, symbol_codes}
+use Rattle.jpg_huff.specs.Tables.{table_of}
 use Rattle.jpg_huff.proofs.Steps as steps
 use Rattle.jpg_seq.specs.Reader.{in_force, IsPlaceReadable, SeqReady, IsSeqScan, IsOfScan, IsCoderOf, AreFilled, part_at, coder_at, prediction_at, behind, new_units_at, RepresentsSeqScan, sequential, new_at, AreInRow, BeginAt, IsInRow, rows_in_mcu, row_units, top_of}
 use Rattle.std.proofs.lemmas.Int.{ints}
@@ -64,19 +64,12 @@ table_valid t =
     let P : ℕ → Type 0 = λ c. AreCodes 1 c t.counts in
     tested 1 0 t.counts (subst P x.first (steps.are_codes t.counts t.symbols t.firsts t.starts t.limits 15 0 x refl))
 
-none_some : (b : HuffmanTable) → None ≡ Some b → ⊥
-none_some b e = cc
-
 found_valid : (o : Option Table) (table : HuffmanTable) → option_map table_of o ≡ Some table → are_codes 1 0 table.counts ≡ true
-found_valid None table e = absurd (none_some table e)
+found_valid None table e = absurd cc
 found_valid (Some t) table e = subst (λ (h : HuffmanTable). are_codes 1 0 h.counts ≡ true) (some_once (table_of t) table e) (table_valid t)
 
 pub valid : (set : TableSet) → AreTables (in_force set)
 valid set class slot table e = found_valid (in_slot (cond (class == 0) (dc_tables set) (ac_tables set)) slot) table e
-
--- the codes of a table that is found
-pub codes_found : (o : Option Table) (t : Table) → o ≡ Some t → codes_of (option_map table_of o) ≡ symbol_codes t
-codes_found o t e = ap (λ (x : Option Table). codes_of (option_map table_of x)) e
 
 -- The tables of a scan's components.
 
@@ -152,8 +145,8 @@ coding_at f head set b j k coder is same lt comp of =
       categories = ap (λ x. cond x 1 (bounds f).ac_cat) r ∙ ap (λ (x : Bounds). x.ac_cat) (sym same);
       runs = ap (λ x. cond x 14 0) p;
       bounds = sym same;
-      dc_codes = ap (λ (x : ScanPart). codes_of (option_map table_of (in_slot (dc_tables set) x.dc))) q ∙ codes_found (in_slot (dc_tables set) (part_at head.parts j).dc) of.dc of.in_dc ∙ sym of.dc_codes;
-      ac_codes = ap (λ (x : ScanPart). codes_of (option_map table_of (in_slot (ac_tables set) x.ac))) q ∙ codes_found (in_slot (ac_tables set) (part_at head.parts j).ac) of.ac of.in_ac ∙ sym of.ac_codes;
+      dc_codes = ap (λ (x : ScanPart). codes_of (option_map table_of (in_slot (dc_tables set) x.dc))) q ∙ ap (λ (x : Option Table). codes_of (option_map table_of x)) of.in_dc ∙ sym of.dc_codes;
+      ac_codes = ap (λ (x : ScanPart). codes_of (option_map table_of (in_slot (ac_tables set) x.ac))) q ∙ ap (λ (x : Option Table). codes_of (option_map table_of x)) of.in_ac ∙ sym of.ac_codes;
     }
 
 bounds_sane : (f : Frame) → AreSane (bounds f)
@@ -303,17 +296,8 @@ whole_band : (s : Scan) (block : List ℤ) → s.ss ≡ 0 → s.se ≡ 63 → le
 whole_band s block ss se long = ap (λ n. take (n + 1 - s.ss) (drop s.ss block)) se ∙ ap (λ n. take (63 + 1 - n) (drop n block)) ss ∙ take_all 64 block (omega (arith, long))
 
 after_band : (s : Scan) (k : ℕ) → s.ss ≡ 0 → s.se ≡ 63 → is_in_band s k ≡ false → 64 ≤ k
-after_band s k ss se e = ⊎_elim (λ (h : k < 64). absurd (no h)) (λ (h : 64 ≤ k). h) (cases_lt k 64)
-  where
-    test : (m n : ℕ) → m ≤ n → nat_le m n ≡ true
-    test m n h = grind (arith, nat_tests, h)
-
-    no : k < 64 → ⊥
-    no h =
-        let a : nat_le s.ss k ≡ true = test s.ss k (omega (arith, ss)) in
-        let b : nat_le k s.se ≡ true = test k s.se (omega (arith, se, h)) in
-        let z : true ≡ false = sym (ap (λ t. t && nat_le k s.se) a ∙ b) ∙ e in
-        cc
+after_band s k ss se e =
+    ⊎_elim (λ (h : k < 64). absurd (clash (is_in_band s k) (and_intro (nat_le s.ss k) (nat_le k s.se) (le-leb s.ss k (omega (arith, ss))) (le-leb k s.se (omega (arith, se, h)))) e)) (λ (h : 64 ≤ k). h) (cases_lt k 64)
 
 -- what is true after a complete unit
 pub record UnitRead (m : SeqReader) (i : Interval) (bits : List Bool) (now : Picture) (p : Place) (block : List ℤ) (b : Bool) (o : RepresentsSeqScan m i bits now) : Type 0 where

@@ -25,9 +25,6 @@ use Rattle.jpg_spec.specs.PictureInWork.{is_at}
 use Rattle.jpg_coefs.specs.declared.machine.Taken.{Taken}
 use Rattle.jpg_coefs.proofs.Maps.{put_here, put_others, at_place}
 
-pub starts : (most : ℕ) (s : Spot) → 1 ≤ most → (stands : (i : Interval) × (bits : List Bool) × RepresentsSeqScan s.machine i bits s.picture) → SoFar most s s 0
-starts most s some o = record { taken = []; split = refl; chain = (refl, refl); count = omega arith; few = omega arith; interval = o.0; bits = o.1; standing = o.2 }
-
 -- the bits up to the last one of a unit
 abbrev UpTo : ℕ → Spot → Result UnitStep UnitFault → Spot → Type 0
 UpTo most from answer new = (bits : List Bool) × (from.store ≡ bits ++ new.store) × ChainTo sequential most from.machine from.picture bits answer new.machine new.picture
@@ -290,7 +287,13 @@ next_inside P (q ∷ places) (suc most) (suc done) p all few is = next_inside P 
 -- WHAT WAS READ SO FAR, and what ends it
 
 pub row_starts : (most : ℕ) (tops : List ℕ) (s : Spot) → 1 ≤ most → ReadsSoFar most tops s s 0
-row_starts most tops s some = record { so_far = λ part whole is o. (whole, is, starts most (record s { picture = whole }) some o); framed = refl; few = some; cursor = refl; left = omega arith }
+row_starts most tops s some = record {
+  so_far = λ part whole is o. (whole, is, record { taken = []; split = refl; chain = (refl, refl); count = omega arith; few = some; interval = o.0; bits = o.1; standing = o.2 });
+  framed = refl;
+  few = some;
+  cursor = refl;
+  left = omega arith;
+}
 
 module _ {most : ℕ} {tops : List ℕ} {from now : Spot} {done : ℕ} (r : ReadsSoFar most tops from now done) {p : Place} (first : slice_get (now.machine).cursor 0 ≡ Some p) where
   pub row_can_read : CanReadInto tops from.machine from.picture → CanRead now.machine p.component
@@ -317,8 +320,14 @@ module _ {most : ℕ} {tops : List ℕ} {from now : Spot} {done : ℕ} (r : Read
 
 -- A unit is complete, and its block is put into what is stored.
 module _ {most : ℕ} {tops : List ℕ} {from now : Spot} {done : ℕ} (r : ReadsSoFar most tops from now done) {p : Place} (first : slice_get (now.machine).cursor 0 ≡ Some p)
-    (inside : AreInRow (from.picture).frame tops (take most (from.machine).cursor)) {unit : Work} {new : Spot} (reads : ReadsOn now.machine p.component now.store took.Done unit new.store)
-    (put : PutsUnit tops (with_work now.machine unit) now.picture p new.machine new.picture) where
+    (open_now : CanReadInto tops from.machine from.picture) (inside : AreInRow (from.picture).frame tops (take most (from.machine).cursor)) {unit : Work} {machine : SeqReader} {picture : Picture} {store : List Bool}
+    (reads : ReadsOn now.machine p.component now.store took.Done unit store) (put : PutsUnit tops (with_work now.machine unit) now.picture p machine picture) where
+  abbrev new : Spot
+  new = record { machine = machine; picture = picture; store = store }
+
+  some : 1 ≤ (now.machine).left
+  some = some_left (r.so_far open_now.0 open_now.1 open_now.2 open_now.3).2
+
   -- the picture that it is a part of, by then
   put_now : (part : Part) (after : Picture) → Shows part tops after now.picture → IsPadded after.frame p.component p.x p.y → Shows part tops (put_at after p unit.values) new.picture
   put_now part after is pad = subst (λ (q : Picture). Shows part tops (put_at after p unit.values) q) (sym put.block) (shown_put part tops after now.picture p unit.values is put.count pad (row_here r first inside))
@@ -329,26 +338,26 @@ module _ {most : ℕ} {tops : List ℕ} {from now : Spot} {done : ℕ} (r : Read
   cursor_one : (new.machine).cursor ≡ drop (done + 1) (from.machine).cursor
   cursor_one = ap (λ (q : SeqReader). q.cursor) put.machine ∙ ap (drop 1) r.cursor ∙ drop-drop 1 done (from.machine).cursor
 
-  left_one : 1 ≤ (now.machine).left → (from.machine).left ≡ (new.machine).left + (done + 1)
-  left_one some = omega (arith, r.left, ap (λ (q : SeqReader). q.left) put.machine, some)
+  left_one : (from.machine).left ≡ (new.machine).left + (done + 1)
+  left_one = omega (arith, r.left, ap (λ (q : SeqReader). q.left) put.machine, some)
 
-  pub row_interval : 1 ≤ (now.machine).left → (new.machine).left ≡ 0 → ReadsPlaces most tops from.machine from.picture from.store taken.IntervalDone new.machine new.picture new.store
-  row_interval some none = record {
+  pub row_interval : machine.left ≡ 0 → ReadsPlaces most tops from.machine from.picture from.store taken.IntervalDone machine picture store
+  row_interval none = record {
     takes = λ part whole at o. (let w = r.so_far part whole at o in (put_at w.0 p unit.values, put_now part w.0 w.1 (can_put w.2 first), interval_ends w.2 first (put_whole part w.0 w.1) none));
-    passes = record { units = done + 1; few = (omega (arith, r.few), none); cursor = cursor_one; left = left_one some };
+    passes = record { units = done + 1; few = (omega (arith, r.few), none); cursor = cursor_one; left = left_one };
   }
 
-  pub row_units : 1 ≤ (now.machine).left → 1 ≤ (new.machine).left → most ≤ done + 1 → ReadsPlaces most tops from.machine from.picture from.store taken.Units new.machine new.picture new.store
-  row_units some more enough = record {
+  pub row_units : 1 ≤ machine.left → most ≤ done + 1 → ReadsPlaces most tops from.machine from.picture from.store taken.Units machine picture store
+  row_units more enough = record {
     takes = λ part whole at o. (let w = r.so_far part whole at o in (put_at w.0 p unit.values, put_now part w.0 w.1 (can_put w.2 first), units_end w.2 first (put_whole part w.0 w.1) more enough));
-    passes = record { units = done + 1; few = (omega (arith, r.few, enough), more); cursor = cursor_one; left = left_one some };
+    passes = record { units = done + 1; few = (omega (arith, r.few, enough), more); cursor = cursor_one; left = left_one };
   }
 
-  pub row_goes_on : 1 ≤ (now.machine).left → 1 ≤ (new.machine).left → done + 1 < most → ReadsSoFar most tops from new (done + 1)
-  row_goes_on some more few = record {
+  pub row_goes_on : 1 ≤ machine.left → done + 1 < most → ReadsSoFar most tops from new (done + 1)
+  row_goes_on more few = record {
     so_far = λ part whole at o. (let w = r.so_far part whole at o in (put_at w.0 p unit.values, put_now part w.0 w.1 (can_put w.2 first), goes_on w.2 first (put_whole part w.0 w.1) more few));
     framed = ap (λ (q : Picture). q.frame) put.block ∙ r.framed;
     few = few;
     cursor = cursor_one;
-    left = left_one some;
+    left = left_one;
   }

@@ -11,7 +11,7 @@ use Rattle.jpg_coefs.specs.declared.machine.UnitFault.{UnitFault}
 use Rattle.jpg_seq.specs.declared.work.UnitEnd.{UnitEnd}
 use Rattle.jpg_seq.specs.declared.work.UnitEnd.TheVariants.{Empty, Done, Fault}
 use Rattle.jpg_seq.specs.Work.{Work, Env, IsPartOf, Adds, BitsRevealAfter, FrontsAre, NoPartBegins, IsElement, IsShownFault, StepsTo, StepsThrough, BitsComeTo, IsUnitCovered, TakesFromStore, TakesElement, AreNext, AreSane}
-use Rattle.jpg_seq.proofs.Elements.{cut, some_of, ac_code, end_element, value_taken}
+use Rattle.jpg_seq.proofs.Elements.{cut, part_front, ac_code, end_element, value_taken}
 use Rattle.jpg_spec.proofs.Basics.Common.{last_split}
 use Rattle.std.proofs.lemmas.Grind.{elements}
 use Rattle.std.proofs.lemmas.List.{drop-take}
@@ -77,37 +77,14 @@ to_last e values w p (b ∷ d ∷ y) s h fronts =
 
 -- all bits are a part of an element
 pub part_leads : (e : Env) (values : List ℤ) (p y : List Bool) → IsPartOf e values (p ++ y) → StepsThrough e (at values p) y (at values (p ++ y))
-part_leads e values p y part = more p y (fronts_of e values p y part)
-  where
-    -- each prefix of a part is one
-    part_front : (e : Env) (values : List ℤ) (x z : List Bool) → IsPartOf e values (x ++ z) → IsPartOf e values x
-    part_front e values x z (inl n) = inl (nil x z n)
-      where
-        nil : (x z : List Bool) → x ++ z ≡ [] → x ≡ []
-        nil [] z h = refl
-        nil (b ∷ x) z h = absurd cc
-    part_front e values x z (inr (inl b)) = (let k = some_of (z ++ b.1 ∷ b.2) (omega (arith, length-append z (b.1 ∷ b.2))) in
-        inr (inl (b.0, k.0, k.1, b.3, b.4 ∙ append_assoc x z (b.1 ∷ b.2) ∙ ap (λ q. x ++ q) k.2)))
-    part_front e values x z (inr (inr t)) =
-        ⊎_elim
-        (λ (a : length x < length t.0). (let k = cut x z t.0 t.1 t.5 (omega arith) in
-        let m = some_of k.0 (omega (arith, ap length k.1, length-append x k.0)) in
-        inr (inl ((t.0, 16 * t.2 + t.3), m.0, m.1, t.4, k.1 ∙ ap (λ q. x ++ q) m.2))))
-        (λ (a : length t.0 ≤ length x). (let k = cut t.0 t.1 x z (sym t.5) a in
-        inr (inr (t.0, k.0, t.2, t.3, t.4, k.1, omega (arith, t.6, ap length k.2, length-append k.0 z), t.7))))
-        (cases_lt (length x) (length t.0))
-
-    fronts_of : (e : Env) (values : List ℤ) (p y : List Bool) → IsPartOf e values (p ++ y) → (x z : List Bool) → p ++ y ≡ x ++ z → IsPartOf e values x
-    fronts_of e values p y part x z s = part_front e values x z (subst (λ q. IsPartOf e values q) s part)
-
-    more : (p y : List Bool) → ((x z : List Bool) → p ++ y ≡ x ++ z → IsPartOf e values x) → StepsThrough e (at values p) y (at values (p ++ y))
-    more p [] each = ap (at values) (append-nil p)
-    more p (b ∷ y) each =
-        let q : p ++ b ∷ y ≡ (p ++ b ∷ []) ++ y = sym (append_assoc p (b ∷ []) y) in (
-          at values (p ++ b ∷ []),
-          inl (refl, each (p ++ b ∷ []) y q),
-          subst (λ m. StepsThrough e (at values (p ++ b ∷ [])) y m) (ap (at values) (sym q)) (more (p ++ b ∷ []) y (λ x z s. each x z (q ∙ s))),
-        )
+part_leads e values p [] part = ap (at values) (append-nil p)
+part_leads e values p (b ∷ y) part =
+    let q : p ++ b ∷ y ≡ (p ++ b ∷ []) ++ y = sym (append_assoc p (b ∷ []) y) in
+    let whole : IsPartOf e values ((p ++ b ∷ []) ++ y) = subst (λ z. IsPartOf e values z) q part in (
+      at values (p ++ b ∷ []),
+      inl (refl, part_front e values (p ++ b ∷ []) y whole),
+      subst (λ m. StepsThrough e (at values (p ++ b ∷ [])) y m) (ap (at values) (sym q)) (part_leads e values (p ++ b ∷ []) y whole),
+    )
 
 -- FROM A STORE
 
@@ -140,6 +117,10 @@ cut_off e values p store bits n part next le ends =
     }))
     (λ (b : n ≤ length p). absurd (let k = cut (take n bits) behind p store whole (omega (arith, b, l)) in ends p k.0 part k.1))
     (cases_lt (length p) n)
+
+-- they may be skipped
+pub can_skip : (e : Env) (s : Work) (store bits : List Bool) (n have : ℕ) → IsPartOf e s.values s.part → have ≡ length s.part → AreNext s.part store bits → n ≤ length bits → NoPartBegins e s.values (take n bits) → (have ≤ n) × (n - have ≤ length store)
+can_skip e s store bits n have part is next le ends = (let k = cut_off e s.values s.part store bits n part next le ends in (omega (arith, is, k.more), omega (arith, is, k.there)))
 
 pub element_takes : (e : Env) (s t : Work) (store rest bits : List Bool) (n : ℕ) (here : List ℤ) (answer : Option UnitEnd) → IsPartOf e s.values s.part → AreNext s.part store bits → n ≤ length bits → IsElement e s.values (take n bits) here
     → rest ≡ drop (n - length s.part) store → t ≡ at (s.values ++ here) [] → IsUnitCovered t answer → TakesFromStore e s store answer t rest
@@ -189,22 +170,16 @@ part_takes e s t store rest bits less next part few to none =
     (store, rw none (sym (append-nil store)), subst (λ m. StepsThrough e s store m) (sym to) (part_leads e s.values s.part store joined), rw to (record { left = less; part = joined }), λ h. none)
 
 -- where nothing waits
-pub none_wait : (p store : List Bool) → p ≡ [] → AreNext p store store
-none_wait p store none = record { rest = []; split = ap (λ z. z ++ store) none ∙ sym (append-nil store); all = λ h. refl }
-
 pub no_part : (s t : Work) (values : List ℤ) → s.part ≡ [] → t ≡ record s { values = values } → t ≡ at values []
 no_part s t values none is = is ∙ ap (at values) none
 
 pub one_taken : (e : Env) (s t : Work) (store rest : List Bool) (answer : Option UnitEnd) → s.part ≡ [] → TakesElement e s store t rest → IsUnitCovered t answer → TakesFromStore e s store answer t rest
 one_taken e s t store rest answer none (n, here, some, le, el, is, to) cov =
     let e0 : n ≡ n - length s.part = omega (arith, ap length none) in
-    element_takes e s t store rest store n here answer (inl none) (none_wait s.part store none) le el (is ∙ ap (λ m. drop m store) e0) to cov
+    element_takes e s t store rest store n here answer (inl none) (record { rest = []; split = ap (λ z. z ++ store) none ∙ sym (append-nil store); all = λ h. refl }) le el (is ∙ ap (λ m. drop m store) e0) to cov
 
 pub covered_done : (t : Work) (answer : Option UnitEnd) → IsUnitCovered t answer → answer ≡ Some Empty → ⊥
-covered_done t None cov is = absurd cc
-covered_done t (Some Done) cov is = absurd cc
-covered_done t (Some Empty) cov is = cov
-covered_done t (Some (Fault fault)) cov is = cov
+covered_done t answer cov is = subst (IsUnitCovered t) is cov
 
 pub one_grows : (e : Env) (s t : Work) (store rest : List Bool) → TakesElement e s store t rest → length s.values < length t.values
 one_grows e s t store rest (n, here, some, le, el, is, to) = omega (arith, el.some, ap (λ (x : Work). length x.values) to, length-append s.values here)
@@ -380,12 +355,12 @@ none_begins codes bits n apart some low front none = λ u f.
 module _ (e : Env) (values : List ℤ) (bits : List Bool) (t : ShortValue) (sane : AreSane e.bounds) (apart : AreApart e.ac) (some : 1 ≤ length values) (less : length values < 64) where
   pub entry_element : BeginsWithShortValue e.ac bits t → t.run + length values < 64 → IsElement e values (take t.length bits) (zeros t.run ++ t.value ∷ [])
   entry_element entry room =
-      let code = ac_code e values bits entry.code (16 * t.run + entry.size) sane apart some less entry.some (omega (arith, entry.there)) entry.in_codes in
+      let code = ac_code {e = e} {values = values} bits entry.code (16 * t.run + entry.size) sane apart some less entry.some (omega (arith, entry.there)) entry.in_codes in
       subst (λ n. IsElement e values (take n bits) (zeros t.run ++ t.value ∷ [])) (sym entry.sum)
       (value_taken bits entry.code t.run entry.size t.value code entry.there entry.sized (omega (arith, entry.some, entry.few, sane.nine)) room entry.run entry.category entry.extra)
 
   pub entry_end : IsNextEnd e.ac bits t → IsElement e values (take t.length bits) (zeros (64 - length values))
-  entry_end entry = end_element (ac_code e values bits t.length 0 sane apart some less entry.some entry.there entry.in_codes) (64 - length values) refl refl
+  entry_end entry = end_element (ac_code {e = e} {values = values} bits t.length 0 sane apart some less entry.some entry.there entry.in_codes) (64 - length values) refl refl
 
 -- Bits of a source, taken from its store.
 

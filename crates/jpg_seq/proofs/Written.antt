@@ -1,12 +1,12 @@
 -- The elements of a band, value by value with a run of zeros that waits.
-use Rattle.std.proofs.Common.{◌≡◌, ◌≢◌, ℕ, zero, suc, ◌+◌, ◌-◌, ◌*◌, ◌/◌, ◌%◌, ◌<◌, ◌≤◌, Bool, true, false, cond, List, [], ◌∷◌, ◌++◌, refl, sym, ap, ◌∙◌, arith, ℤ, pos, negsuc, ⊎_elim, lit≤, ◌==◌, map, flat_map, replicate, if◌then◌else◌, append_assoc, append-nil, subst, ◌&&◌, slice_index_or, int_le, nat_abs, ◌^◌, length, drop, drop-drop, get_or, add-one, length-drop, get_or-drop, drop-cons, ◌||◌, ◌-ℤ◌, All, Ok}
+use Rattle.std.proofs.Common.{◌≡◌, ◌≢◌, ℕ, zero, suc, ◌+◌, ◌-◌, ◌*◌, ◌/◌, ◌%◌, ◌<◌, ◌≤◌, Bool, true, false, cond, List, [], ◌∷◌, ◌++◌, refl, sym, ap, ◌∙◌, arith, ℤ, pos, negsuc, ⊎_elim, lit≤, ◌==◌, map, flat_map, replicate, if◌then◌else◌, append_assoc, append-nil, subst, ◌&&◌, slice_index_or, int_le, nat_abs, ◌^◌, length, drop, drop-drop, get_or, add-one, length-drop, get_or-drop, drop-cons, ◌||◌, ◌-ℤ◌, All, Ok, w64, bit_and}
 use Rattle.std.proofs.lemmas.Bool.{cases_eq, cases_lt}
 use Rattle.std.proofs.lemmas.Bool.Decides.{nat_tests}
 use Rattle.jpg_spec.specs.Bits.{bits_of}
 use Rattle.jpg_spec.specs.Codes.{Code, code_of}
-use Rattle.jpg_spec.specs.Lists.{any_of, is_empty, is_among}
+use Rattle.jpg_spec.specs.Lists.{any_of, is_among}
 use Rattle.jpg_spec.specs.Numbers.{digits, category, extra_bits}
-use Rattle.jpg_spec.specs.Elements.{Element, value, long_run, ends, is_zero, are_in_bounds, IsBlockIn, zeros, difference, predicted}
+use Rattle.jpg_spec.specs.Elements.{Element, value, long_run, ends, is_zero, are_in_bounds, zeros, difference, predicted}
 use Rattle.jpg_spec_write.specs.Sending.{Sent, newly_significant, sent, is_new, up_to_last, after_last, corrections_of, value_elements, band_elements, shifted}
 use Rattle.jpg_spec_write.proofs.Shifts.{divided_none, shifted_none}
 use Rattle.jpg_seq.specs.ScanWritten.{spelled, run_elements, run_told, band_told, run_bits, IsShort, AreFew, band_bits, block_bits, dc_bits, tables_in, unit_bits, CanKeep, KeepsScan, WrittenScan, kept_kind, kept_scan, kept_state, scan_places, written_data, seq_units, ac_mark, block_marks, due_marks}
@@ -17,15 +17,14 @@ use Rattle.jpg_spec.specs.declared.frame.Bounds.{Bounds}
 use Rattle.jpg_spec.proofs.Basics.Small.{AreBounds, are_bounds}
 use Rattle.jpg_spec.proofs.Basics.Common.{both}
 use Rattle.std.proofs.lemmas.List.Concat.{flat_map-append}
-use Rattle.std.specs.Int.{trailing_zeros}
-use mir.Syntax.{w64}
-use lib.Bits.{bit_and, and_self}
+use Rattle.std.specs.Int.{bit_at, trailing_zeros}
+use lib.Bits.{and_self}
 use Rattle.std.proofs.lemmas.Nat.{and_block}
 use Rattle.std.proofs.lemmas.Simd.{trailing_mask_l, leading_from_mask_l}
 use Rattle.jpg_base.specs.Marks.{is_some, marks}
-use Rattle.jpg_base.proofs.Marked.{zeros_first}
+use Rattle.jpg_base.proofs.Marked.{marks_are, zeros_first}
 use Rattle.std.proofs.lemmas.List.Elements.{All-head, All-tail}
-use Rattle.jpg_spec.specs.Segments.{HuffmanTable, ScanHead, table_codes, head_components}
+use Rattle.jpg_spec.specs.Segments.{ScanHead, table_codes, head_components}
 use Rattle.jpg_spec.specs.Scan.{Blocks, block_at, part_of}
 use Rattle.jpg_spec_write.specs.ScanText.{UnitDue, Owned, last_dc, unit_elements, element_bits}
 use Rattle.jpg_spec_write.specs.WrittenFile.{HasBlocksIn}
@@ -86,25 +85,14 @@ none_behind (v ∷ values) = by (none_behind values) (any_of is_new (map newly_s
     by ih false e = ap corrections_of (after_false (newly_significant v) (map newly_significant values) e) ∙ none_corrected values
 
 -- the elements of one band by its prefix and its rest
-abbrev pub halves : List Sent → List Sent → List Element
-halves front rest =
-    let waiting = (if is_empty front then [] else []) ++ corrections_of rest in
-    (if is_empty front then [] else [] ++ value_elements 0 [] front) ++ (if is_empty rest then [] else ends 1 waiting ∷ [] ++ [])
-
-halves_are : (front rest : List Sent) → corrections_of rest ≡ [] → halves front rest ≡ value_elements 0 [] front ++ tail rest
-halves_are [] [] e = refl
-halves_are [] (s ∷ rest) e = ap (λ bits. (let r : List Element = ends 1 bits ∷ [] in r)) e
-halves_are (f ∷ front) [] e = refl
-halves_are (f ∷ front) (s ∷ rest) e = ap (λ bits. (let r : List Element = value_elements 0 [] (f ∷ front) ++ ends 1 bits ∷ [] in r)) e
-
-band_halves : (band : List Sent) → band_elements 1 0 [] (band ∷ []) ≡ halves (up_to_last band) (after_last band)
-band_halves band = by (up_to_last band) (after_last band) refl refl
+band_halves : (band : List Sent) → corrections_of (after_last band) ≡ [] → band_elements 1 0 [] (band ∷ []) ≡ value_elements 0 [] (up_to_last band) ++ tail (after_last band)
+band_halves band none = by (up_to_last band) (after_last band) refl refl
   where
-    by : (front rest : List Sent) → up_to_last band ≡ front → after_last band ≡ rest → band_elements 1 0 [] (band ∷ []) ≡ halves (up_to_last band) (after_last band)
+    by : (front rest : List Sent) → up_to_last band ≡ front → after_last band ≡ rest → band_elements 1 0 [] (band ∷ []) ≡ value_elements 0 [] (up_to_last band) ++ tail (after_last band)
     by [] [] e f = rw (e, f) refl
-    by [] (s ∷ rest) e f = rw (e, f) refl
+    by [] (s ∷ rest) e f = rw (e, f) (ap (λ bits. (let r : List Element = ends 1 bits ∷ [] in r)) (rw f at none))
     by (t ∷ front) [] e f = rw (e, f) refl
-    by (t ∷ front) (s ∷ rest) e f = rw (e, f) refl
+    by (t ∷ front) (s ∷ rest) e f = rw (e, f) (ap (λ bits. (let r : List Element = value_elements 0 [] (t ∷ front) ++ ends 1 bits ∷ [] in r)) (rw f at none))
 
 -- ITS VALUES
 
@@ -187,8 +175,7 @@ all_plain (v ∷ values) = by (all_plain values) (any_of is_new (map newly_signi
 pub band_plain : (values : List ℤ) → band_elements 1 0 [] (map (sent false 0) values ∷ []) ≡ plain_elements values 0
 band_plain values =
     ap (λ band. band_elements 1 0 [] (band ∷ [])) (sent_newly values)
-    ∙ band_halves (map newly_significant values)
-    ∙ halves_are (up_to_last (map newly_significant values)) (after_last (map newly_significant values)) (none_behind values)
+    ∙ band_halves (map newly_significant values) (none_behind values)
     ∙ (all_plain values).1
 
 -- a value that isn't 0
@@ -226,16 +213,6 @@ module _ {X : Type 0} (tell : Element → List X) where
   pub left_all : (values : List ℤ) → left_told tell values ≡ band_told tell values
   unfolding left_told band_told
   left_all values = ap (flat_map tell) (sym (band_plain values))
-
-  -- zeros up to the end, or none
-  pub left_zeros : (values : List ℤ) (n : ℕ) → plain_elements values 0 ≡ plain_elements [] n → 1 ≤ n → left_told tell values ≡ tell (ends 1 [])
-  unfolding left_told
-  left_zeros values zero is some = absurd (omega arith)
-  left_zeros values (suc n) is some = ap (flat_map tell) is ∙ append-nil (tell (ends 1 []))
-
-  pub left_none : (values : List ℤ) (n : ℕ) → plain_elements values 0 ≡ plain_elements [] n → n ≡ 0 → left_told tell values ≡ []
-  unfolding left_told
-  left_none values n is none = ap (flat_map tell) (is ∙ ap (plain_elements []) none)
 
   -- sixteen zeros of a run, and a run of fewer
   pub run_more : (run : ℕ) (v : ℤ) → 16 ≤ run → run_told tell run v ≡ tell (long_run []) ++ run_told tell (run - 16) v
@@ -275,25 +252,14 @@ end_spelled codes = append-nil (code_of codes 0)
 few_at : (r : Bounds) → AreBounds r → (values : List ℤ) (k : ℕ) → are_in_bounds r false values ≡ true → category (slice_index_or values k (pos 0)) ≤ 14
 unfolding Rattle.jpg_spec.specs.Numbers.digits
 few_at r b [] k ok = lit≤ tt
-few_at r b (v ∷ values) k ok =
-    let h = both (int_le (pos (nat_abs v)) r.ac) (are_in_bounds r false values) ok in
-    let c = b.values v h.0 in
-    let most = b.ac_few in
-    by k (omega (arith, c, most)) (λ n. few_at r b values n h.1)
-  where
-    by : (k : ℕ) → category v ≤ 14 → ((n : ℕ) → category (slice_index_or values n (pos 0)) ≤ 14) → category (slice_index_or (v ∷ values) k (pos 0)) ≤ 14
-    by zero few ih = few
-    by (suc n) few ih = ih n
+few_at r b (v ∷ values) zero ok = omega (arith, b.values v (both (int_le (pos (nat_abs v)) r.ac) (are_in_bounds r false values) ok).0, b.ac_few)
+few_at r b (v ∷ values) (suc k) ok = few_at r b values k (both (int_le (pos (nat_abs v)) r.ac) (are_in_bounds r false values) ok).1
 
 are_few : (r : Bounds) → AreBounds r → (block : List ℤ) → are_in_bounds r true block ≡ true → AreFew block
 unfolding Rattle.jpg_spec.specs.Numbers.digits
-are_few r b [] ok zero h l = absurd (omega arith)
+are_few r b block ok zero h l = absurd (omega (arith, h))
 are_few r b [] ok (suc k) h l = lit≤ tt
-are_few r b (v ∷ values) ok zero h l = absurd (omega arith)
 are_few r b (v ∷ values) ok (suc k) h l = few_at r b values k (both (int_le r.dc_low v && int_le v r.dc_high) (are_in_bounds r false values) ok).1
-
-pub block_few : (f : Frame) (block : List ℤ) → IsBlockIn (bounds f) block → AreFew block
-block_few f block is = are_few (bounds f) (are_bounds f.precision) block is.1
 
 pub zeros_few : (last : ℤ) → AreFew (last ∷ zeros 63)
 unfolding Rattle.jpg_spec.specs.Numbers.digits
@@ -301,9 +267,6 @@ zeros_few last zero h l = absurd (omega (arith, h))
 zeros_few last (suc k) h l =
     let z : slice_index_or (zeros 63) k (pos 0) ≡ pos 0 = get_or-replicate 63 k (pos 0) (pos 0) (omega (arith, l)) in
     subst (λ v. category v ≤ 14) (sym z) (lit≤ tt)
-
-pub few_short : (block : List ℤ) → AreFew block → IsShort block
-few_short block few = λ k some small. (let h = few k some small in omega (arith, h))
 
 -- The values of a band that aren't 0, found by the bits of a word.
 
@@ -397,12 +360,21 @@ first_cleared (pos zero ∷ values) h =
 first_cleared (pos (suc n) ∷ values) h = one_cleared values
 first_cleared (negsuc n ∷ values) h = one_cleared values
 
--- a value after zeros, from a place of a block on
-next_elements : (block : List ℤ) (next k rest : ℕ) → length block ≡ 64 → next ≤ 64 → rest ≡ marks (blank next block) → 0 < rest → k ≡ trailing_zeros w64 rest
-    → (next ≤ k) × (k < 64)
-    × (plain_elements (drop next block) 0 ≡ run_elements (k - next) (get_or block k (pos 0)) ++ plain_elements (drop (k + 1) block) 0)
-    × (bit_and rest (rest - 1) ≡ marks (blank (k + 1) block))
-next_elements block next k rest long few is some first =
+-- the bits of the values of a block from a place on, which is after the first value
+pub record AreLeft (block : List ℤ) (next rest : ℕ) : Type 0 where
+  pub long : length block ≡ 64
+  pub marked : rest ≡ marks (blank next block)
+  pub some : 1 ≤ next
+  pub few : next ≤ 64
+
+-- a value after zeros, and what is told of them
+pub next_told : {X : Type 0} (tell : Element → List X) {block : List ℤ} {next rest : ℕ} → AreLeft block next rest → 0 < rest → (let k = trailing_zeros w64 rest in
+    (next ≤ k) × (k < 64) × (left_told tell (drop next block) ≡ run_told tell (k - next) (get_or block k (pos 0)) ++ left_told tell (drop (k + 1) block)) × AreLeft block (k + 1) (bit_and rest (rest - 1)))
+unfolding left_told run_told
+next_told tell {block} {next} {rest} is_left some =
+    let k = trailing_zeros w64 rest in
+    let long = is_left.long in
+    let is = is_left.marked in
     let values = drop next block in
     let size : length values ≡ 64 - next = length-drop next block ∙ ap (λ n. n - next) long in
     let whole : length (blank next block) ≡ 64 = length_blank next block ∙ long in
@@ -411,8 +383,8 @@ next_elements block next k rest long few is some first =
     (λ (h : 0 < marks values). h)
     (λ (h : marks values ≤ 0). (let z = (none_blank next block).1 (omega (arith, h)) in absurd (omega (arith, z, above))))
     (cases_lt 0 (marks values)) in
-    let t : k ≡ zeros_first (blank next block) = first ∙ ap (trailing_zeros w64) is ∙ trailing_mask_l is_some 64 (blank next block) (omega (arith, whole)) above in
-    let b = zeros_blank next block (omega (arith, few, long)) in
+    let t : k ≡ zeros_first (blank next block) = ap (trailing_zeros w64) is ∙ trailing_mask_l is_some 64 (blank next block) (omega (arith, whole)) above in
+    let b = zeros_blank next block (omega (arith, is_left.few, long)) in
     let e : k - next ≡ zeros_first values = omega (arith, t, b) in
     let low : next ≤ k = omega (arith, t, b) in
     let f = first_some values behind_some in
@@ -426,33 +398,29 @@ next_elements block next k rest long few is some first =
     let after : suc (zeros_first (blank next block)) ≡ k + 1 = omega (arith, t) in (
       low,
       there,
-      left_run values 0 ∙ ap (λ m. plain_elements (drop m values) (0 + zeros_first values)) (sym e) ∙ ap (plain_elements (drop (k - next) values)) zero_run ∙ ap (λ vs. plain_elements vs (k - next)) behind
-          ∙ left_at block k (k - next) inside ∙ plain_value (get_or block k (pos 0)) (drop (k + 1) block) (k - next) n,
-      ap (λ m. bit_and m (m - 1)) is ∙ first_cleared (blank next block) above ∙ ap (λ m. marks (blank m (blank next block))) after ∙ ap marks (blank_more next (k + 1) block (omega (arith, low))),
+      ap (flat_map tell)
+          (left_run values 0 ∙ ap (λ m. plain_elements (drop m values) (0 + zeros_first values)) (sym e) ∙ ap (plain_elements (drop (k - next) values)) zero_run ∙ ap (λ vs. plain_elements vs (k - next)) behind
+          ∙ left_at block k (k - next) inside ∙ plain_value (get_or block k (pos 0)) (drop (k + 1) block) (k - next) n)
+          ∙ flat_map-append tell (run_elements (k - next) (get_or block k (pos 0))) (plain_elements (drop (k + 1) block) 0),
+      record { long = long; some = omega arith; few = omega (arith, there); marked = ap (λ m. bit_and m (m - 1)) is ∙ first_cleared (blank next block) above ∙ ap (λ m. marks (blank m (blank next block))) after ∙ ap marks (blank_more next (k + 1) block (omega (arith, low))) },
     )
 
--- zeros up to the end
-pub no_elements : (block : List ℤ) (next rest : ℕ) → length block ≡ 64 → rest ≡ marks (blank next block) → rest ≡ 0 → plain_elements (drop next block) 0 ≡ plain_elements [] (64 - next)
-no_elements block next rest long is none =
+-- no further value: an EOB if zeros are left
+pub none_told : {X : Type 0} (tell : Element → List X) {block : List ℤ} {next rest : ℕ} → AreLeft block next rest → rest ≡ 0
+    → (next < 64 → left_told tell (drop next block) ≡ tell (ends 1 [])) × (64 ≤ next → left_told tell (drop next block) ≡ [])
+unfolding left_told
+none_told tell {block} {next} {rest} is_left none =
     let values = drop next block in
-    let size : length values ≡ 64 - next = length-drop next block ∙ ap (λ n. n - next) long in
-    let empty : marks values ≡ 0 = (none_blank next block).0 (sym is ∙ none) in
+    let size : length values ≡ 64 - next = length-drop next block ∙ ap (λ n. n - next) is_left.long in
+    let empty : marks values ≡ 0 = (none_blank next block).0 (sym is_left.marked ∙ none) in
     let e : zeros_first values ≡ length values = leading_from_mask_l is_some values empty in
     let f : 0 + zeros_first values ≡ 64 - next = omega (arith, e, size) in
-    left_run values 0 ∙ ap (λ vs. plain_elements vs (0 + zeros_first values)) (drop_all (zeros_first values) values (omega (arith, e))) ∙ ap (plain_elements []) f
+    let is = left_run values 0 ∙ ap (λ vs. plain_elements vs (0 + zeros_first values)) (drop_all (zeros_first values) values (omega (arith, e))) ∙ ap (plain_elements []) f in (
+      λ some. (let n : 64 - next ≡ suc (63 - next) = omega (arith, some) in ap (flat_map tell) (is ∙ ap (plain_elements []) n) ∙ append-nil (tell (ends 1 []))),
+      λ all. (let n : 64 - next ≡ 0 = omega (arith, all) in ap (flat_map tell) (is ∙ ap (plain_elements []) n)),
+    )
 
--- what is told of them
-pub next_told : {X : Type 0} (tell : Element → List X) (block : List ℤ) (next k rest : ℕ) → length block ≡ 64 → next ≤ 64 → rest ≡ marks (blank next block) → 0 < rest → k ≡ trailing_zeros w64 rest
-    → (next ≤ k) × (k < 64)
-    × (left_told tell (drop next block) ≡ run_told tell (k - next) (get_or block k (pos 0)) ++ left_told tell (drop (k + 1) block))
-    × (bit_and rest (rest - 1) ≡ marks (blank (k + 1) block))
-unfolding left_told run_told
-next_told tell block next k rest long few is some first =
-    let n = next_elements block next k rest long few is some first in
-    (n.0, n.1, ap (flat_map tell) n.2 ∙ flat_map-append tell (run_elements (k - next) (get_or block k (pos 0))) (plain_elements (drop (k + 1) block) 0), n.3)
-
--- the bits of a complete block, of which the first is set to 0
-pub first_blank : (block : List ℤ) (word : ℕ) → length block ≡ 64 → word ≡ marks block → word < 2 ^ 64 → word / 2 ^ 1 * 2 ^ 1 % 2 ^ 64 ≡ marks (blank 1 block)
+first_blank : (block : List ℤ) (word : ℕ) → length block ≡ 64 → word ≡ marks block → word < 2 ^ 64 → word / 2 ^ 1 * 2 ^ 1 % 2 ^ 64 ≡ marks (blank 1 block)
 first_blank [] word long is small = absurd (omega (arith, long))
 first_blank (v ∷ values) word long is small = first_even (is_some v) (marks values) word is small
   where
@@ -460,25 +428,11 @@ first_blank (v ∷ values) word long is small = first_even (is_some v) (marks va
     first_even true m word is small = omega (arith, is, small)
     first_even false m word is small = omega (arith, is, small)
 
+-- the bits of a complete block, of which the first is set to 0
+pub all_left : (block : List ℤ) (word : ℕ) → length block ≡ 64 → word < 2 ^ 64 → ((k : ℕ) → k < 64 → bit_at word k ≡ (if is_zero (get_or block k (pos 0)) then 0 else 1)) → AreLeft block 1 (word / 2 ^ 1 * 2 ^ 1 % 2 ^ 64)
+all_left block word long small bits = record { long = long; some = omega arith; few = omega arith; marked = first_blank block word long (marks_are block word long small bits) small }
+
 -- The bits of a scan's units, one unit after another.
-
--- THE BITS OF ONE UNIT, by the tables of its component
-
-abbrev pub Tables : Type 0
-Tables = ℕ → ℕ → HuffmanTable
-
-abbrev pub coded_at : Tables → ScanHead → ℕ → Element → List Bool
-coded_at T head i e = element_bits T head (i, e)
-
-abbrev pub dc_at : Tables → ScanHead → ℕ → List Code
-dc_at T head i = table_codes (T 0 (part_of head i).dc)
-
-abbrev pub ac_at : Tables → ScanHead → ℕ → List Code
-ac_at T head i = table_codes (T 1 (part_of head i).ac)
-
-band_coded : (T : Tables) (head : ScanHead) (i : ℕ) (values : List ℤ) → band_told (coded_at T head i) values ≡ band_bits (ac_at T head i) values
-unfolding element_bits
-band_coded T head i values = band_same (coded_at T head i) (spelled (ac_at T head i)) (λ r v. refl) refl refl values
 
 -- results of the elements of a component, and of those after them
 owned_each : {X : Type 0} (f : Owned → List X) (i : ℕ) (es : List Element) (rest : List Owned) → flat_map f (map (λ e. (let o : Owned = (i, e) in o)) es ++ rest) ≡ flat_map (λ e. f (i, e)) es ++ flat_map f rest
@@ -486,27 +440,16 @@ owned_each f i [] rest = refl
 owned_each f i (e ∷ es) rest = ap (λ t. f (i, e) ++ t) (owned_each f i es rest) ∙ sym (append_assoc (f (i, e)) (flat_map (λ e. f (i, e)) es) (flat_map f rest))
 
 -- what is told of the elements of a unit, and of those of the units after it
-pub unit_told : {X : Type 0} (tell : Owned → List X) (last : ℕ → ℤ) (i : ℕ) (block : List ℤ) (due : List UnitDue)
-    → flat_map tell (unit_elements true false 0 last ((i, block) ∷ due))
-    ≡ tell (i, difference (slice_index_or block 0 (pos 0) -ℤ last i)) ++ (band_told (λ e. tell (i, e)) (drop 1 block) ++ flat_map tell (unit_elements true false 0 (last_dc last i block) due))
+pub unit_told : {X : Type 0} (tell : Owned → List X) (lasts : ℕ → ℤ) (i : ℕ) (last : ℤ) (block : List ℤ) (due : List UnitDue) → lasts i ≡ last
+    → flat_map tell (unit_elements true false 0 lasts ((i, block) ∷ due))
+    ≡ tell (i, difference (slice_index_or block 0 (pos 0) -ℤ last)) ++ (band_told (λ e. tell (i, e)) (drop 1 block) ++ flat_map tell (unit_elements true false 0 (last_dc lasts i block) due))
 unfolding band_told
-unit_told tell last i block due =
+unit_told tell lasts i last block due same =
     let v = slice_index_or block 0 (pos 0) in
     let band = flat_map (λ e. tell (i, e)) (band_elements 1 0 [] (map (sent false 0) (drop 1 block) ∷ [])) in
-    ap (λ t. tell (i, difference (shifted 0 v -ℤ last i)) ++ t) (owned_each tell i (band_elements 1 0 [] (map (sent false 0) (drop 1 block) ∷ [])) (unit_elements true false 0 (predicted last i (shifted 0 v)) due))
-    ∙ ap (λ w. tell (i, difference (w -ℤ last i)) ++ (band ++ flat_map tell (unit_elements true false 0 (predicted last i w) due))) (shifted_none v)
-
--- the units that are left after these DC values
-abbrev pub due_bits : Tables → ScanHead → (ℕ → ℤ) → List UnitDue → List Bool
-due_bits T head last due = flat_map (element_bits T head) (unit_elements true false 0 last due)
-
-one_unit : (T : Tables) (head : ScanHead) (last : ℕ → ℤ) (i : ℕ) (block : List ℤ) (due : List UnitDue)
-    → due_bits T head last ((i, block) ∷ due) ≡ block_bits (dc_at T head i) (ac_at T head i) (last i) block ++ due_bits T head (last_dc last i block) due
-unfolding block_bits element_bits
-one_unit T head last i block due =
-    let rest = due_bits T head (last_dc last i block) due in
-    unit_told (element_bits T head) last i block due ∙ ap (λ t. dc_bits (dc_at T head i) (last i) block ++ (t ++ rest)) (band_coded T head i (drop 1 block))
-    ∙ sym (append_assoc (dc_bits (dc_at T head i) (last i) block) (band_bits (ac_at T head i) (drop 1 block)) rest)
+    let rest = λ (w : ℤ). band ++ flat_map tell (unit_elements true false 0 (predicted lasts i w) due) in
+    ap (λ t. tell (i, difference (shifted 0 v -ℤ lasts i)) ++ t) (owned_each tell i (band_elements 1 0 [] (map (sent false 0) (drop 1 block) ∷ [])) (unit_elements true false 0 (predicted lasts i (shifted 0 v)) due))
+    ∙ ap (λ w. tell (i, difference (w -ℤ lasts i)) ++ rest w) (shifted_none v) ∙ ap (λ p. tell (i, difference (v -ℤ p)) ++ rest v) same
 
 -- THE PART OF A COMPONENT
 
@@ -523,18 +466,23 @@ pub due_few : (f : Frame) (head : ScanHead) (blocks : Blocks) (last : ℤ) (p : 
 due_few f head blocks last p all is = by p.real refl
   where
     by : (b : Bool) → p.real ≡ b → AreFew (cond b (block_at blocks p) (last ∷ zeros 63))
-    by true e = block_few f (block_at blocks p) (all p.component p.x p.y (is_real_place f head p is e))
+    by true e = are_few (bounds f) (are_bounds f.precision) (block_at blocks p) (all p.component p.x p.y (is_real_place f head p is e)).1
     by false e = zeros_few last
 
--- the first unit of those that are left
+-- the bits of the first unit of those that are left, by the tables of its component
 pub next_unit : (set : TableSet) (head : ScanHead) (lasts : ℕ → ℤ) (i : ℕ) (last : ℤ) (block : List ℤ) (due : List UnitDue) → lasts i ≡ last
-    → due_bits (tables_in set) head lasts ((i, block) ∷ due) ≡ unit_bits set head i last block ++ due_bits (tables_in set) head (last_dc lasts i block) due
-next_unit set head lasts i last block due e =
-    one_unit (tables_in set) head lasts i block due ∙ ap (λ q. unit_bits set head i q block ++ due_bits (tables_in set) head (last_dc lasts i block) due) e
+    → flat_map (element_bits (tables_in set) head) (unit_elements true false 0 lasts ((i, block) ∷ due)) ≡ unit_bits set head i last block ++ flat_map (element_bits (tables_in set) head) (unit_elements true false 0 (last_dc lasts i block) due)
+unfolding block_bits element_bits
+next_unit set head lasts i last block due same =
+    let tell = element_bits (tables_in set) head in
+    let ac = table_codes (tables_in set 1 (part_of head i).ac) in
+    let first = dc_bits (table_codes (tables_in set 0 (part_of head i).dc)) last block in
+    let rest = flat_map tell (unit_elements true false 0 (last_dc lasts i block) due) in
+    unit_told tell lasts i last block due same ∙ ap (λ t. first ++ (t ++ rest)) (band_same (λ e. tell (i, e)) (spelled ac) (λ r v. refl) refl refl (drop 1 block)) ∙ sym (append_assoc first (band_bits ac (drop 1 block)) rest)
 
 -- a unit at a place
 pub unit_fits : (f : Frame) (head : ScanHead) (set : TableSet) (blocks : Blocks) (last : ℤ) (p : Place) → HasBlocksIn f blocks → All (HasTables set) head.parts → IsScanPlace f head p → HasTables set (part_of head p.component) × IsShort (block_due blocks last p)
-unit_fits f head set blocks last p all tables is = (named_part (HasTables set) head.parts p.component tables is.named, few_short (block_due blocks last p) (due_few f head blocks last p all is))
+unit_fits f head set blocks last p all tables is = (named_part (HasTables set) head.parts p.component tables is.named, λ k some small. (let h = due_few f head blocks last p all is k some small in omega (arith, h)))
 
 -- A sequential scan that is written into memory.
 
@@ -618,18 +566,14 @@ pub end_marked : (slot : ℕ) → ac_mark slot (ends 1 []) ≡ ((1, slot), 0) �
 unfolding digits
 end_marked slot = refl
 
-unit_marks : (head : ScanHead) (last : ℕ → ℤ) (i : ℕ) (block : List ℤ) (due : List UnitDue)
-    → due_marks head last ((i, block) ∷ due) ≡ block_marks (part_of head i) (last i) block ++ due_marks head (last_dc last i block) due
-unfolding block_marks
-unit_marks head last i block due =
-    let first : Mark = ((0, (part_of head i).dc), category (slice_index_or block 0 (pos 0) -ℤ last i)) in
-    unit_told (owned_marks head) last i block due
-    ∙ ap (λ t. first ∷ (t ++ due_marks head (last_dc last i block) due)) (band_same (λ e. owned_marks head (i, e)) (ac_mark (part_of head i).ac) (λ r v. refl) refl refl (drop 1 block))
-
 -- the first unit of those that are left
 pub next_marks : (head : ScanHead) (lasts : ℕ → ℤ) (i : ℕ) (last : ℤ) (block : List ℤ) (due : List UnitDue) → lasts i ≡ last
     → due_marks head lasts ((i, block) ∷ due) ≡ block_marks (part_of head i) last block ++ due_marks head (last_dc lasts i block) due
-next_marks head lasts i last block due e = unit_marks head lasts i block due ∙ ap (λ q. block_marks (part_of head i) q block ++ due_marks head (last_dc lasts i block) due) e
+unfolding block_marks
+next_marks head lasts i last block due same =
+    let first : Mark = ((0, (part_of head i).dc), category (slice_index_or block 0 (pos 0) -ℤ last)) in
+    unit_told (owned_marks head) lasts i last block due same
+    ∙ ap (λ t. first ∷ (t ++ due_marks head (last_dc lasts i block) due)) (band_same (λ e. owned_marks head (i, e)) (ac_mark (part_of head i).ac) (λ r v. refl) refl refl (drop 1 block))
 
 -- all of a scan
 pub all_counted : (f : Frame) (head : ScanHead) (interval : ℕ) (blocks : Blocks) (none new : SymbolCounts) → is_progressive f.process ≡ false → none ≡ no_counts

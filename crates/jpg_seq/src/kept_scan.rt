@@ -33,6 +33,7 @@ impl<'a> KeptScan<'a> {
     /// A scan of which no unit is written, by these tables, with a restart marker after each `interval` MCUs (0: none), each
     /// interval padded with ones. The header names one to four distinct components of the frame, whose tables are there. It
     /// takes no memory yet.
+    #[tactic(auto, using(crate::proofs::Written::keeps_none))]
     pub fn new(
         alloc: Global,
         frame: &Frame,

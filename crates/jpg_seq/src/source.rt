@@ -25,6 +25,7 @@ impl<'a> Source<'a> {
 
     /// Takes bytes until the store has 32 bits, or all bytes.
     #[inline(always)]
+    #[tactic(auto, using(crate::proofs::Takings::source_long))]
     pub fn fill(&mut self)
         ensures same { bits_in self.new ≡ bits_in self.old }
         ensures full { length self.new.store < 32 → self.new.bytes.now ≡ [] }
@@ -67,6 +68,7 @@ impl<'a> Source<'a> {
 
     /// Takes all bytes.
     #[inline(never)]
+    #[tactic(auto, using(crate::proofs::Takings::byte_fits))]
     pub fn take_all(&mut self)
         requires room { length (bits_in self.old) ≤ 64 }
         ensures store { self.new.store ≡ bits_in self.old }

@@ -32,7 +32,8 @@ use Rattle.jpg_seq.specs.Work.{unit_in_work}
 use Rattle.jpg_seq.specs.declared.reader.SeqReader.{SeqReader}
 use Rattle.jpg_file.specs.Read.InData.{InData, IsInterval, IsReadable, AtWork, scan_answer, work_after, IsRowAt, scan_left, unfinished, HalfData, IsWrongMarker, PassesByte, PassesRun}
 use Rattle.jpg_file.specs.Read.Machine.{any_scan, scan_kind, whole_blocks, TakesRowBits}
-use Rattle.jpg_file.specs.Read.Strips.{IsRowInScan, PassesRest, ShowsInRow, StopsRowData, StopsRowRun, FewBefore, LastRowRun, row_stored, CompletesBefore, IsFirstScan, components_of, frame_behind}
+use Rattle.jpg_file.specs.Read.Strips.{IsRowInScan, PassesRest, CompletesBefore, IsFirstScan, components_of, frame_behind}
+use Rattle.jpg_file.specs.Read.Window.{ShowsInRow, StopsRowData, StopsRowRun, FewBefore, LastRowRun}
 use Rattle.jpg_file.specs.declared.read.machine.ScanReader.{ScanReader}
 use Rattle.jpg_file.specs.declared.read.rows.RowWork.{RowWork}
 use Rattle.jpg_file.proofs.ByRow.RowsPlaced.{PlaceStops, all_at, bands_long, machine_stands, parts_stand, stops_complete, units_at, left_whole, place_stops, scan_of_all, TellsAt, whole_at, data_stops}
@@ -51,6 +52,7 @@ use Rattle.jpg_file.proofs.ByRow.RowTurns.{open_half, open_scan}
 use Rattle.jpg_coefs.specs.declared.machine.UnitStep.{UnitStep}
 use Rattle.jpg_coefs.specs.declared.machine.UnitStep.TheVariants as step
 use Rattle.jpg_spec_write.proofs.ProgressiveLength.{bytes_long}
+use Rattle.jpg_file.specs.declared.read.window.Window.TheVariants as window
 
 -- What bits encode before a fault that the next bit reveals: no more than up to the place where they end (T.81, F.2.2).
 
@@ -379,7 +381,7 @@ faulty given other fault is e = absurd (let z : (let s : Result Bool Fault = Ok 
 
 module _ (limits : Limits) (items : List Item) (contents bytes : List ℕ) (old new : InScan) (w after : RowWork) (whole : Picture)
     (row : IsRowOf w.tops whole w.coefs) (at : IsRowInScan limits items contents old w) (fault : Fault) where
-  pub byte_stopped : (byte : ℕ) (given : Result Bool Fault) → InData limits items contents bytes old whole → PassesByte row_stored old w byte given new after
+  pub byte_stopped : (byte : ℕ) (given : Result Bool Fault) → InData limits items contents bytes old whole → PassesByte old (window.Row w) byte given new (window.Row after)
       → given ≡ Err fault → CompletesBefore limits (bytes ++ byte ∷ []) (segments_of items) contents w
   byte_stopped byte given d (inl n) e = by (n.why fault e)
     where
@@ -404,7 +406,7 @@ module _ (limits : Limits) (items : List Item) (contents bytes : List ℕ) (old 
       (t.took.0 g.0 whole g.1 row (open_half limits items contents bytes w.waiting old whole h)) at.0 at.1
 
   pub run_stopped : (run : List ℕ) (n : ℕ) (given : Result Bool Fault) → n ≤ length run → InData limits items contents bytes old whole
-      → PassesRun row_stored old w run n given new after → given ≡ Err fault → CompletesBefore limits (bytes ++ take n run) (segments_of items) contents w
+      → PassesRun old (window.Row w) run n given new (window.Row after) → given ≡ Err fault → CompletesBefore limits (bytes ++ take n run) (segments_of items) contents w
   run_stopped run n given few d (gate, plain, t) e =
       let g = faulty given t.taken fault t.is e in
       let there = plain_at limits bytes d.place (take n run) (front_plain run n few plain) (open_at limits items contents bytes old whole d gate) in
@@ -485,7 +487,7 @@ fewer i m mid now between a bits sound kind stands chain =
 
 -- PLAIN BYTES inside the data of the scan
 pub run_last : (limits : Limits) (items : List Item) (contents bytes : List ℕ) (old new : InScan) (w after : RowWork) (whole : Picture) (run : List ℕ) (n : ℕ) (given : Result Bool Fault)
-    → IsRowOf w.tops whole w.coefs → IsRowInScan limits items contents old w → InData limits items contents bytes old whole → PassesRun row_stored old w run n given new after
+    → IsRowOf w.tops whole w.coefs → IsRowInScan limits items contents old w → InData limits items contents bytes old whole → PassesRun old (window.Row w) run n given new (window.Row after)
     → (early : ℕ) × (n ≡ early + 1) × CompletesBefore limits (bytes ++ take early run) (segments_of items) contents w
 run_last limits items contents bytes old new w after whole run n given row at d (gate, plain, t) =
     let due = t.due in

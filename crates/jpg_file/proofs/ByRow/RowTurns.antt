@@ -5,13 +5,14 @@ use Rattle.jpg_coefs.specs.Picture.{Picture, is_padded, map_of}
 use Rattle.jpg_coefs.specs.declared.machine.Taken.{Taken}
 use Rattle.jpg_seq.specs.Reader.{sequential, IsCountOf, PassesPlaces, ReadsInto, AreInRow, one_row, row_units, rows_in_mcu, top_of}
 use Rattle.jpg_seq.specs.declared.reader.SeqReader.{SeqReader}
-use Rattle.jpg_file.specs.Read.Machine.{any_scan, IsInsideMcuRow, IsOpenRowScan, TakesRowBits, GivesBits, GivesRun, waits_of, AnswersIn, CanTake, TakesBitsInto, TakesBytesInto}
+use Rattle.jpg_file.specs.Read.Machine.{any_scan, IsInsideMcuRow, IsOpenRowScan, TakesRowBits, GivesBits, GivesRun, waits_of, AnswersIn}
 use Rattle.jpg_file.specs.declared.read.machine.ScanReader.{ScanReader}
 use Rattle.jpg_file.specs.declared.read.machine.ScanReader.TheVariants.{Sequential}
 use Rattle.jpg_file.proofs.Scans.Machines.{is_sequential, takes_of}
 use Rattle.jpg_spec.specs.Bits.{bits_of, bits_of_bytes}
 use Rattle.jpg_coefs.specs.declared.machine.Taken.TheVariants as taken
-use Rattle.jpg_file.specs.Read.Strips.{CountsRow, row_stored, CountsRows}
+use Rattle.jpg_file.specs.Read.Strips.{CountsRows}
+use Rattle.jpg_file.specs.Read.Window.{CountsRow, CanTake, TakesBitsInto, TakesBytesInto}
 use Rattle.jpg_file.specs.Read.InData.{HalfData, AfterBytes, TakesRun, IsRowIn, KeepsRowIn, TurnsRow, block_rows_of, completes_row, unfinished, CountsScan, IsBlankAfter, IsDataOf, PassesByte, AtWork, scan_answer, work_after, ArePlain, InData, scan_left}
 use Rattle.jpg_file.specs.declared.read.rows.RowWork.{RowWork}
 use Rattle.jpg_file.proofs.Scans.Runs.{given, run_given, answers_after}
@@ -50,6 +51,7 @@ use Rattle.jpg_spec.specs.PictureInWork.{is_at}
 use Rattle.jpg_spec.specs.declared.frame.Place.{Place}
 use Rattle.jpg_spec.specs.ScanRows.{scan_row}
 use Rattle.jpg_seq.proofs.Machines.{row_next}
+use Rattle.jpg_file.specs.declared.read.window.Window.TheVariants as window
 
 -- The machine of a sequential scan among the others, while an MCU row is read.
 
@@ -100,14 +102,14 @@ module _ (w : RowWork) (m after : ScanReader) (row : Picture) (answer : Taken) w
   -- DATA of the row
 
   pub data_takes : (left : ℕ) (bits rest waiting : List Bool) → waiting ≡ waits_of answer rest → TakesRowBits w.left w.tops m w.coefs bits answer after row rest
-      → TakesBitsInto row_stored w m bits answer (record w { coefs = row; left = left; waiting = waiting }) after
+      → TakesBitsInto (window.Row w) m bits answer (window.Row (record w { coefs = row; left = left; waiting = waiting })) after
   data_takes left bits rest waiting waits t = λ whole at o.
       (let k = t whole at o in (k.0, k.1, subst (λ (z : List Bool). GivesBits any_scan m whole bits answer z after k.0) (sym waits) (given any_scan m whole w.left after k.0 bits rest answer k.2)))
 
   pub run_takes_row : (left : ℕ) (bytes : List ℕ) (count n : ℕ) (last waiting : List Bool) → 1 ≤ length bytes → count ≤ 8 * length bytes
       → n ≡ length bytes - length (drop count (bits_of_bytes bytes)) / 8 → last ≡ drop (count - 8 * (n - 1)) (bits_of 8 (get_or bytes (n - 1) 0))
       → waiting ≡ waits_of answer last → TakesRowBits w.left w.tops m w.coefs (bits_of_bytes bytes) answer after row (drop count (bits_of_bytes bytes))
-      → TakesBytesInto row_stored w m bytes n answer (record w { coefs = row; left = left; waiting = waiting }) after
+      → TakesBytesInto (window.Row w) m bytes n answer (window.Row (record w { coefs = row; left = left; waiting = waiting })) after
   run_takes_row left bytes count n last waiting some within size is waits t = λ whole at o.
       (let k = t whole at o in (
         k.0,
@@ -116,7 +118,7 @@ module _ (w : RowWork) (m after : ScanReader) (row : Picture) (answer : Taken) w
       ))
 
   -- at least one byte is taken
-  pub some_in_row : (bytes : List ℕ) (count n : ℕ) → CanTake RowWork row_stored w m → 1 ≤ length bytes → count ≤ 8 * length bytes
+  pub some_in_row : (bytes : List ℕ) (count n : ℕ) → CanTake (window.Row w) m → 1 ≤ length bytes → count ≤ 8 * length bytes
       → n ≡ length bytes - length (drop count (bits_of_bytes bytes)) / 8
       → TakesRowBits w.left w.tops m w.coefs (bits_of_bytes bytes) answer after row (drop count (bits_of_bytes bytes)) → 1 ≤ n
   some_in_row bytes count n can some within size t =
@@ -413,18 +415,22 @@ never_completes : (n : ℕ) → completes_row n n ≡ false
 never_completes zero = refl
 never_completes (suc n) = ap (λ b. b && (suc n == 0)) (lt_yes 0 (suc n) (omega arith)) ∙ not_same (suc n) 0 (λ e. omega (arith, e))
 
-pub byte_counts : (old new : InScan) (w after : RowWork) (byte : ℕ) (answer : Result Bool Fault) → IsDataOf RowWork row_stored old w → w.waiting ≡ []
-    → PassesByte row_stored old w byte answer new after → CountsScan old w (completes_row w.left after.left) new after
+-- one window, one row
+pub row_once : (a b : RowWork) → window.Row a ≡ window.Row b → a ≡ b
+row_once a b e = cc
+
+pub byte_counts : (old new : InScan) (w after : RowWork) (byte : ℕ) (answer : Result Bool Fault) → IsDataOf old (window.Row w) → w.waiting ≡ []
+    → PassesByte old (window.Row w) byte answer new (window.Row after) → CountsScan old w (completes_row w.left after.left) new after
 byte_counts old new w after byte answer can none (inl n) =
-    subst (λ (v : RowWork). CountsScan old w (completes_row w.left v.left) new v) (sym n.same)
+    subst (λ (v : RowWork). CountsScan old w (completes_row w.left v.left) new v) (sym (row_once after w n.same))
     (subst (λ b. CountsScan old w b new w) (sym (never_completes w.left)) (none_counted old new w n.left none))
 byte_counts old new w after byte answer can none (inr p) =
     let t = p.took in
     counts_scan old w t.taken new after t.machine t.due (can.due t.due).1 t.took.2 t.work
 
 -- a marker that ends the data changes no row
-pub marker_same : (old new : InScan) (w after : RowWork) (byte : ℕ) (answer : Result Bool Fault) → PassesByte row_stored old w byte answer new after → answer ≡ Ok true → after ≡ w
-marker_same old new w after byte answer (inl n) e = n.same
+pub marker_same : (old new : InScan) (w after : RowWork) (byte : ℕ) (answer : Result Bool Fault) → PassesByte old (window.Row w) byte answer new (window.Row after) → answer ≡ Ok true → after ≡ w
+marker_same old new w after byte answer (inl n) e = row_once after w n.same
 marker_same old new w after byte answer (inr p) e = absurd (never_over p.took.taken (sym p.took.is ∙ e))
 
 -- So the row remains in its scan.

@@ -20,9 +20,9 @@ use Rattle.jpg_spec.specs.Laws.{frame_of_items}
 use Rattle.jpg_spec.specs.ScanRows.{first_rows}
 use Rattle.jpg_spec.specs.RowsParsed.{BeginsScanOfAll, TellsRows, blocks_in, row_places, CompletesRows}
 use Rattle.jpg_spec.specs.declared.frame.Limits.{Limits}
-use Rattle.jpg_spec.proofs.Basics.Common.{both, clash, lt_of, some_once, not_zero}
+use Rattle.jpg_spec.proofs.Basics.Common.{both, clash, lt_of, not_zero}
 use Rattle.jpg_spec.proofs.Headers.BeforeScans.{no_heads}
-use Rattle.jpg_spec.proofs.Files.FileLaws.{stands_early}
+use Rattle.jpg_spec.proofs.Files.FileLaws.{stands_early, stands_truncated}
 use Rattle.jpg_spec.proofs.Headers.FrameAfter.{leads_pass}
 use Rattle.jpg_spec.proofs.McuRows.RowsHeader.{begun_frame, begun_once, all_complete, begun_places}
 use Rattle.jpg_spec.proofs.McuRows.RowsOfItems.{HoldsRows, rows_of_items}
@@ -34,53 +34,54 @@ use Rattle.jpg_seq.proofs.Machines.{units_by_row}
 use Rattle.jpg_file.specs.Read.SegmentState.{HasBegun, HasBegunAll, IsComplete, HasBegunEach, RepresentsHeads, kept_for}
 use Rattle.jpg_file.specs.Read.File.{RepresentsFile, IsBetweenFileItems, keeping_of, with_picture, EndStands, EndsFile}
 use Rattle.jpg_file.specs.Read.Items.{AtPlace}
-use Rattle.jpg_file.specs.Read.ReadFile.{ReaderState, GivenBefore, HasLastByte, RowsGive, RowsGo, RowsOpen, GoesOn, KnowsAfter, LastOfRow, TakesPiece, AsksForMemory, AgreeInRows, AreOfRow, HasBegunRows, HasReadRows, IsEarlyByRows, LendsRow, HasGivenRow, HasReadAll, IsEarlyPlainly, IsReading, HasAllBlocks, HasReadSoFar, IsDoneByRows, StopsKnownRows as StopsRows, after_piece, with_work, work_of, AfterFeedKeeping, AfterFeedRow, AsksOnFeedKeeping, AsksOnFeedRow, FeedsKeeping, FeedsRow, HasReadPlainly, IsDonePlainly, NotSooner, ReadsInto, ReadsOne, StopsSoFar}
+use Rattle.jpg_file.specs.Read.ReadFile.{ReaderState, GivenBefore, HasLastByte, RowsGive, RowsGo, RowsOpen, GoesOn, KnowsAfter, LastOfRow, TakesPiece, AsksForMemory, AgreeInRows, AreOfRow, HasBegunRows, HasReadRows, IsEarlyByRows, LendsRow, HasGivenRow, HasReadAll, IsEarlyPlainly, IsReading, HasAllBlocks, HasReadSoFar, IsDoneByRows, StopsKnownRows as StopsRows, after_piece, with_work, work_of, AfterFeedKeeping, AfterFeedRow, AsksOnFeedKeeping, AsksOnFeedRow, FeedsKeeping, FeedsRow, HasReadPlainly, IsDonePlainly, NotSooner, ReadsInto, ReadsOne, StopsSoFar, HasRead, TellsBegun}
 use Rattle.jpg_file.specs.Read.InData.{IsRowAt, scan_left, IsBlankAfter, unfinished}
-use Rattle.jpg_file.specs.Read.Strips.{rows_of_scan, GoesByRow, RowsAfter, RowsInside, components_of, frame_behind, RepresentsRows, RepresentsStrip, BeganAtFault, NoRowsIn, KnowsRows, RowsKnown, RowsSoFar, EndsByRow, RowsFault, LacksRow, AfterStrip}
+use Rattle.jpg_file.specs.Read.Strips.{rows_of_scan, GoesByRow, RowsAfter, RowsInside, components_of, frame_behind, RepresentsRows, RepresentsStrip, BeganAtFault, NoRowsIn, KnowsRows, RowsKnown, RowsSoFar, EndsByRow, RowsFault, LacksRow, AfterStrip, FileSeen}
 use Rattle.jpg_file.specs.declared.read.scan_history.ScanHistory.{ScanHistory}
-use Rattle.jpg_file.specs.declared.read.file.FileWork.{FileWork}
+use Rattle.jpg_file.specs.declared.read.file.FileState.{FileState}
 use Rattle.jpg_file.specs.declared.read.rows.RowWork.{RowWork}
-use Rattle.jpg_file.proofs.Headers.InForce.{markers_kept}
-use Rattle.jpg_file.proofs.Files.Leaving.{at_end, named_by, some_at, some_for, early_leaves, each_complete, ends_early, named_each, file_leaves}
+use Rattle.jpg_file.proofs.Headers.InForce.{markers_kept, all_once, no_head}
+use Rattle.jpg_file.proofs.Files.Leaving.{at_end, named_by, some_at, some_for, early_leaves, each_complete, ends_early, named_each, file_leaves, tells_begun}
 use Rattle.jpg_file.proofs.ByRow.RowTurns.{rows_there}
 use Rattle.jpg_file.proofs.ByRow.RowsGiven.{head_of_early, agree_rows, named_in, rows_cover, TellsDue, inside_tells, place_tells, row_blocks, inside_in_range, same_scan, head_of_whole, goes_completes, row_fed, begun_on}
-use Rattle.jpg_file.proofs.ByRow.StripBytes.{goes_with, open_head, strip_whole}
+use Rattle.jpg_file.proofs.ByRow.StripBytes.{goes_with, open_head, strip_read}
 use Rattle.jpg_file.proofs.ByRow.StripRows.{rest_blank, rest_framed}
 use Rattle.jpg_scans.specs.declared.progress.Progress.{Progress}
 use Rattle.jpg_spec.proofs.Bits.FirstPasses.{all_join}
 use Rattle.jpg_file.proofs.Files.ReaderFed.{plain_stands, plain_open, fed_done, fed_more}
-use Rattle.jpg_file.specs.declared.read.pieces.FedRow.TheVariants as fed
-use Rattle.jpg_base.specs.declared.stop.Stop.TheVariants as stop
 use Rattle.jpg_spec.specs.declared.fault.FaultAt.{FaultAt}
 use Rattle.jpg_spec.specs.declared.frame.Place.{Place}
-use Rattle.jpg_file.specs.declared.read.strip_work.StripWork.{StripWork}
 use Rattle.jpg_file.proofs.Files.FileSteps.{head_left, one_begun, counted, file_means, stands_file, front_is}
-use Rattle.jpg_file.proofs.ByRow.StripBegin.{none_in}
+use Rattle.jpg_file.proofs.ByRow.StripBegin.{none_in, no_rows}
 use Rattle.std.proofs.Math.Seq.{take-append-add}
 use Rattle.jpg_base.specs.declared.stop.Stop.{Stop}
 use Rattle.jpg_file.specs.declared.read.pieces.FedRow.{FedRow}
 use Rattle.jpg_file.specs.declared.read.step.Step.{Step}
-use Rattle.jpg_file.specs.declared.read.step.Step.TheVariants as step
 use Rattle.jpg_file.proofs.ByRow.StripWorks.{no_rows_in, none_first}
+use Rattle.jpg_spec.specs.FirstFault.{IsFirstFault}
+use Rattle.jpg_spec.specs.declared.fault.Fault.TheVariants.{Truncated}
+use Rattle.jpg_file.specs.declared.read.pieces.FedRow.TheVariants as fed
+use Rattle.jpg_base.specs.declared.stop.Stop.TheVariants as stop
+use Rattle.jpg_file.specs.declared.read.step.Step.TheVariants as step
 
 -- If the bytes end early that a reader of MCU rows was fed: their picture, the rows that were passed, the current one,
 -- and zeros after it.
 
 -- THE PICTURE that is left, of these blocks
-record EndsWhole (limits : Limits) (bytes : List ℕ) (w : FileWork) (whole : Picture) : Type 0 where
+record EndsWhole (limits : Limits) (bytes : List ℕ) (w : FileState) (whole : Picture) : Type 0 where
   pub segments : List Segment
   pub early : MeansEarly limits bytes (meaning_of (frame_of limits segments) segments (map_of whole))
   pub framed : whole.frame ≡ frame_of limits segments
   pub range : AreInRange (bounds (frame_of limits segments)) (map_of whole)
   pub kept : w.items.held.kept ≡ (kept_for (keeping_of w) (meaning_of (frame_of limits segments) segments (map_of whole))).kept
 
-ends_whole : (limits : Limits) (bytes : List ℕ) (w : FileWork) (whole : Picture) (all : Bool) → RepresentsFile limits bytes (with_picture w whole) → UnfinishedFile limits bytes → length bytes < limits.input → IsComplete w.begun.progress all → all ≡ true → EndsWhole limits bytes w whole
+ends_whole : (limits : Limits) (bytes : List ℕ) (w : FileState) (whole : Picture) (all : Bool) → RepresentsFile limits bytes (with_picture w whole) → UnfinishedFile limits bytes → length bytes < limits.input → IsComplete w.begun.progress all → all ≡ true → EndsWhole limits bytes w whole
 ends_whole limits bytes w whole all s stands short told e =
     let v = with_picture w whole in
     let a = at_end limits bytes v s in
     let named = named_by limits v.begun a.segments all a.begun told (some_at limits bytes v a) e in
     let here = a.here (some_at limits bytes v a named.found) named in
-    let is : whole ≡ here.coefs = some_once whole here.coefs here.has in
+    let is : whole ≡ here.coefs = all_once whole here.coefs here.has in
     let same : a.blocks ≡ map_of whole = here.as_map ∙ ap map_of (sym is) in
     record {
       segments = a.segments;
@@ -126,7 +127,7 @@ row_number row m (suc n) later units all e count some turned =
     let one : later + cond (suc n == 0) 0 1 ≡ later + 1 = ap (λ b. later + cond b 0 1) (not_zero n) in
     record { least = omega (arith, e, count, one); same = λ due. omega (arith, e, count, one) }
 
-inside_left : (limits : Limits) (bytes : List ℕ) (w : FileWork) (rows : RowWork) (whole : Picture) (m : ℕ) → (r : RowsInside limits bytes w rows whole) → IsRowOf rows.tops whole rows.coefs → (1 ≤ scan_left r.scan → 1 ≤ rows.left)
+inside_left : (limits : Limits) (bytes : List ℕ) (w : FileState) (rows : RowWork) (whole : Picture) (m : ℕ) → (r : RowsInside limits bytes w rows whole) → IsRowOf rows.tops whole rows.coefs → (1 ≤ scan_left r.scan → 1 ≤ rows.left)
     → BeginsScanOfAll limits bytes (segments_of r.items) r.contents → m + unfinished rows ≡ rows_of_scan limits (segments_of r.items) r.contents → RowsLeft limits bytes (segments_of r.items) r.contents m rows whole
 inside_left limits bytes w rows whole m r of turned begins count = record {
   framed = framed;
@@ -142,7 +143,7 @@ inside_left limits bytes w rows whole m r of turned begins count = record {
     at = (r.at).at
 
     framed : whole.frame ≡ frame_of limits (segments_of r.items)
-    framed = rest_framed limits r.items r.contents bytes rows.waiting r.scan whole r.coded (r.held).of
+    framed = rest_framed limits r.items r.contents bytes rows.waiting r.scan whole r.coded r.of
 
     t : TellsDue limits bytes r.items r.contents rows whole
     t = place_tells limits r.items r.contents bytes whole rows (scan_left r.scan) (inside_tells limits bytes w rows whole r) (r.at).at
@@ -165,7 +166,7 @@ inside_left limits bytes w rows whole m r of turned begins count = record {
         }
 
     blank : IsBlankAfter rows whole
-    blank = rest_blank limits r.items r.contents bytes rows.waiting r.scan rows whole r.coded (r.held).of r.at
+    blank = rest_blank limits r.items r.contents bytes rows.waiting r.scan rows whole r.coded r.of r.at
 
     deep : (i y : ℕ) → i < length (frame_of limits (segments_of r.items)).components → (m + 1) * rows_in_mcu (frame_of limits (segments_of r.items)) i ≤ y → top_of rows.tops i + top_of rows.steps i ≤ y
     deep i y there low =
@@ -186,7 +187,7 @@ record ItemsAt (limits : Limits) (bytes : List ℕ) (items : List Item) (blocks 
   pub spelled : SpellsFront items front
   pub leads : Leads limits items blocks
 
-items_at : (limits : Limits) (bytes : List ℕ) (v : FileWork) → (s : IsBetweenFileItems limits bytes v) → has_frame (segments_of s.items) ≡ true → ItemsAt limits bytes s.items s.blocks
+items_at : (limits : Limits) (bytes : List ℕ) (v : FileState) → (s : IsBetweenFileItems limits bytes v) → has_frame (segments_of s.items) ≡ true → ItemsAt limits bytes s.items s.blocks
 items_at limits bytes v s found = by (s.at).at
   where
     by : AtPlace limits bytes (s.at).sent s.items s.blocks → ItemsAt limits bytes s.items s.blocks
@@ -209,7 +210,7 @@ scan_among limits items blocks b begun all found leads = by (has_scan (segments_
         let one : has_begun heads 0 ≡ true = (all f heads begun.scans).1 0 (omega (arith, some)) in
         absurd (clash (has_begun heads 0) one (ap (λ hs. has_begun hs 0) (no_heads f (segments_of items) e)))
 
-module _ (limits : Limits) (bytes : List ℕ) (w : FileWork) (rows : RowWork) (m : ℕ) (before : List Segment) (contents : List ℕ) where
+module _ (limits : Limits) (bytes : List ℕ) (w : FileState) (rows : RowWork) (m : ℕ) (before : List Segment) (contents : List ℕ) where
   after_left : (whole : Picture) (r : RowsAfter limits bytes w rows whole) → IsFrame (frame_of limits before) → BeginsScanOfAll limits bytes before contents
       → m + unfinished rows ≡ rows_of_scan limits before contents → RowsLeft limits bytes before contents m rows whole
   after_left whole r is begins count = record {
@@ -323,7 +324,7 @@ some_scans (Some p) all = refl
 all_each : (o : Option Progress) (f : Frame) (heads : List ScanHead) → HasBegunAll o → 1 ≤ length f.components → RepresentsHeads o f heads → HasBegunEach o
 all_each o f heads all some scans = record { frame = f; heads = heads; some = some; scans = scans; each = each_of (has_begun heads) (length f.components) (all f heads scans).1 }
 
-rows_each : (limits : Limits) (bytes : List ℕ) (w : FileWork) (rows : RowWork) → RepresentsRows limits bytes w rows → HasBegunEach w.begun.progress
+rows_each : (limits : Limits) (bytes : List ℕ) (w : FileState) (rows : RowWork) → RepresentsRows limits bytes w rows → HasBegunEach w.begun.progress
 rows_each limits bytes w rows s = by s.at
   where
     by : RowsInside limits bytes w rows s.whole ⊎ RowsAfter limits bytes w rows s.whole → HasBegunEach w.begun.progress
@@ -332,7 +333,7 @@ rows_each limits bytes w rows s = by s.at
         let f = frame_of limits before in
         let same : f ≡ frame_behind limits r.items = refl in
         let some = (((r.at).at).frame).count_low in
-        all_each w.begun.progress f (heads_of f before) (r.held).all (subst (λ (g : Frame). 1 ≤ length g.components) (sym same) some) ((r.held).begun).scans
+        all_each w.begun.progress f (heads_of f before) r.all (subst (λ (g : Frame). 1 ≤ length g.components) (sym same) some) ((r.held).begun).scans
     by (inr b) =
         let a = at_end limits bytes (with_picture w s.whole) (inl b.between) in
         let f = frame_of limits a.segments in
@@ -345,7 +346,7 @@ begun_rows bytes m r all h told = each_complete r.file.begun.progress all (rows_
 pub begun_given : (bytes : List ℕ) (m : ℕ) (r : ReaderState) (all : Bool) → HasGivenRow bytes m r → IsComplete r.file.begun.progress all → all ≡ true
 begun_given bytes m r all h told = each_complete r.file.begun.progress all (rows_each r.limits bytes r.file (h.begun).rows h.open) told
 
-strip_each : (limits : Limits) (bytes : List ℕ) (rows : Option RowWork) (w : FileWork) (all : Bool) → RepresentsStrip limits bytes rows w → IsComplete w.begun.progress all → all ≡ true → HasBegunEach w.begun.progress
+strip_each : (limits : Limits) (bytes : List ℕ) (rows : Option RowWork) (w : FileState) (all : Bool) → RepresentsStrip limits bytes rows w → IsComplete w.begun.progress all → all ≡ true → HasBegunEach w.begun.progress
 strip_each limits bytes None w all s told e = named_each limits bytes w all s told e
 strip_each limits bytes (Some rows) w all s told e = rows_each limits bytes w rows s
 
@@ -435,7 +436,7 @@ last_within : (limits : Limits) (bytes : List ℕ) → HasLastByte limits bytes 
 last_within limits bytes l = (let short = l.short in let one = length-append l.front (l.byte ∷ []) in omega (arith, ap (λ x. length x) l.cut, one, short))
 
 -- THE ITEMS of a complete file
-module _ (limits : Limits) (all : List ℕ) (before : List Segment) (contents : List ℕ) (m : ℕ) (begins : BeginsScanOfAll limits all before contents) (w : FileWork) (e : EndsFile limits all w) where
+module _ (limits : Limits) (all : List ℕ) (before : List Segment) (contents : List ℕ) (m : ℕ) (begins : BeginsScanOfAll limits all before contents) (w : FileState) (e : EndsFile limits all w) where
   abbrev k : EndStands limits all w
   k = e.ends
 
@@ -473,7 +474,7 @@ module _ (limits : Limits) (all : List ℕ) (before : List Segment) (contents : 
       (subst (λ (x : Blocks). AgreeInRows (frame_of limits before) m x (real_blocks (frame_of limits before) k.blocks)) (sym one) agree)
 
 -- AFTER A PIECE, by what is known of the scan that began
-module _ (r : ReaderState) (new : StripWork) (bytes more : List ℕ) (m : ℕ) (told : (m ≡ 0) ⊎ ((blocks : Blocks) × TellsRows r.limits bytes m blocks)) where
+module _ (r : ReaderState) (new : FileSeen) (bytes more : List ℕ) (m : ℕ) (told : (m ≡ 0) ⊎ ((blocks : Blocks) × TellsRows r.limits bytes m blocks)) where
   abbrev all : List ℕ
   all = bytes ++ more
 
@@ -497,13 +498,14 @@ module _ (r : ReaderState) (new : StripWork) (bytes more : List ℕ) (m : ℕ) (
     -- no further MCU row is complete
     pub more_rows : RowsKnown r.limits (bytes ++ more) m rows new.strip → RowsGo r.limits (bytes ++ more) (Some rows) new.file → new.file.taken < r.limits.input → HasReadRows (bytes ++ more) m (after_piece (Ok fed.More) (with_work r new))
     more_rows k g short =
-        let v = strip_whole r.limits all (Some rows) new.file g.goes in
+        let v = strip_read r.limits all (Some rows) new.file g.goes in
+        let file : FileState = record new.file { window = v.0 } in
         let complete = so_far rows k (goes_completes r.limits all new.file rows g.goes) in
         record {
           skip_ahead = refl;
           undone = refl;
-          short = (let taken = v.taken in omega (arith, counted r.limits all v.file v.stands, taken, short));
-          stands = stands_file r.limits all v.file v.stands;
+          short = omega (arith, counted r.limits all file v.1, short);
+          stands = stands_file r.limits all file v.1;
           begun = record { before = k.before; contents = k.contents; begins = k.begins; rows = rows; has = has; head = open_head r.limits all (Some rows) new.file g.goes.stands; told = k.told };
           «open» = g.goes;
           byte = g.last refl;
@@ -591,7 +593,7 @@ not_sooner limits bytes piece (suc early) m before contents rows begins count la
         c.completed.1 blocks (subst (λ k. TellsRows limits (bytes ++ take early piece) k blocks) is later)
 
 -- THE ANSWERS
-module _ {r : ReaderState} {new : StripWork} {bytes piece : List ℕ} {m : ℕ} (b : RowsBefore bytes m r) where
+module _ {r : ReaderState} {new : FileSeen} {bytes piece : List ℕ} {m : ℕ} (b : RowsBefore bytes m r) where
   given_known : {used : ℕ} {answer : Step} → TakesPiece r.limits (work_of r) piece used answer new → KnowsAfter r.limits (bytes ++ take used piece) m answer new new.rows
   given_known t = t.known bytes m b.given
 
@@ -696,3 +698,28 @@ module _ {old new : ReaderState} {piece : List ℕ} where
       let b = rows_before bytes m old s in
       let t = subst (λ (a : Result FedRow Stop). ReadsInto false old piece a new) is (reads b.skip_ahead) in
       none_asked b t (no_rows_left by t)
+
+-- What a reader of MCU rows has read.
+
+-- how many bytes it has taken
+pub all_taken : (bytes : List ℕ) (m : ℕ) (r : ReaderState) → HasReadAll bytes m r → r.file.taken ≡ length bytes
+all_taken bytes m r (inl (h, z)) = counted r.limits bytes r.file h.read.open
+all_taken bytes m r (inr h) = counted r.limits bytes (with_picture r.file ((h.open).stands).whole) (goes_with r.limits bytes r.file (h.begun).rows h.open)
+
+-- where they end, if a component hasn't begun
+pub truncated : (limits : Limits) (bytes : List ℕ) (w : FileState) (all : Bool) → RepresentsFile limits bytes w → length bytes < limits.input → IsComplete w.begun.progress all → all ≡ false → IsFirstFault limits bytes Truncated w.taken
+truncated limits bytes w all s short told none =
+    subst (λ n. IsFirstFault limits bytes Truncated n) (sym (counted limits bytes w s))
+    (stands_truncated limits bytes (stands_file limits bytes w s) short (subst (λ b. TellsBegun limits bytes b) none (tells_begun limits bytes w all s told)))
+
+pub all_truncated : (bytes : List ℕ) (m : ℕ) (r : ReaderState) (all : Bool) → HasReadAll bytes m r → IsComplete r.file.begun.progress all → all ≡ false → IsFirstFault r.limits bytes Truncated r.file.taken
+all_truncated bytes m r all (inl (h, z)) told none = truncated r.limits bytes r.file all h.read.open h.read.short told none
+all_truncated bytes m r all (inr h) told none = truncated r.limits bytes (with_picture r.file ((h.open).stands).whole) all (goes_with r.limits bytes r.file (h.begun).rows h.open) h.short told none
+
+-- the state before any byte, however the file is to be read
+pub read_nothing : (r : ReaderState) (by_row in_rows : Bool) → r.rows ≡ None → HasRead [] r → HasReadPlainly [] (record r { by_row = by_row; in_rows = in_rows })
+read_nothing r by_row in_rows none k = record {
+  none = none;
+  plain = no_rows r.limits [] (no_head r.limits [] (inl (inl refl)));
+  read = record { skip_ahead = k.skip_ahead; undone = k.undone; short = k.short; stands = k.stands; «open» = k.open; head = k.head };
+}

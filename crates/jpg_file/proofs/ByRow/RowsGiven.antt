@@ -45,7 +45,7 @@ use Rattle.jpg_base.proofs.Grids.{down_low}
 use Rattle.jpg_coefs.specs.Picture.{Picture, is_padded, map_of, block_in}
 use Rattle.jpg_seq.specs.Reader.{IsRowOf, rows_in_mcu, top_of}
 use Rattle.jpg_file.specs.Read.InData.{InRowData, unfinished, IsRowAt, scan_left, frame_at}
-use Rattle.jpg_file.specs.declared.read.file.FileWork.{FileWork}
+use Rattle.jpg_file.specs.declared.read.file.FileState.{FileState}
 use Rattle.jpg_file.specs.declared.read.rows.RowWork.{RowWork}
 use Rattle.jpg_file.specs.declared.read.scan.InScan.{InScan}
 use Rattle.jpg_file.proofs.ByRow.RowsPlaced.{told_first, PlaceTells, begins_at, data_stops, half_tells, rows_cut, scan_of_all, stops_complete}
@@ -172,15 +172,15 @@ module _ (limits : Limits) (bytes : List ℕ) (before : List Segment) (contents 
 
 -- INSIDE THE SCAN, where no bits wait: the MCU rows before the current one are complete, and this one if no unit of it
 -- is left
-pub inside_completes : (limits : Limits) (bytes : List ℕ) (w : FileWork) (rows : RowWork) (whole : Picture) → (r : RowsInside limits bytes w rows whole) → rows.waiting ≡ [] → CompletesBefore limits bytes (segments_of r.items) r.contents rows
+pub inside_completes : (limits : Limits) (bytes : List ℕ) (w : FileState) (rows : RowWork) (whole : Picture) → (r : RowsInside limits bytes w rows whole) → rows.waiting ≡ [] → CompletesBefore limits bytes (segments_of r.items) r.contents rows
 inside_completes limits bytes w rows whole r none =
     let d = subst (λ (l : List Bool). InRowData limits r.items r.contents bytes l r.scan whole) none r.coded in
-    let first = (r.held).of in
+    let first = r.of in
     let all = scan_of_all limits r.items r.contents rows (scan_left r.scan) first (r.at).at in
     stops_complete limits r.items r.contents bytes whole rows (scan_left r.scan) (data_stops limits r.items r.contents bytes r.scan whole d first all) (r.at).at
 
 -- if no bits wait, this many MCU rows are complete
-pub goes_completes : (limits : Limits) (bytes : List ℕ) (w : FileWork) (rows : RowWork) → GoesByRow limits bytes w rows → RowsSoFar limits bytes rows
+pub goes_completes : (limits : Limits) (bytes : List ℕ) (w : FileState) (rows : RowWork) → GoesByRow limits bytes w rows → RowsSoFar limits bytes rows
 goes_completes limits bytes w rows g = by (g.stands).at
   where
     by : RowsInside limits bytes w rows (g.stands).whole ⊎ RowsAfter limits bytes w rows (g.stands).whole → RowsSoFar limits bytes rows
@@ -194,9 +194,9 @@ rest_tells : (limits : Limits) (items : List Item) (contents bytes : List ℕ) (
 rest_tells limits items contents bytes [] s whole d first all = (data_stops limits items contents bytes s whole d first all).tells
 rest_tells limits items contents bytes (bit ∷ bits) s whole h first all = half_tells limits items contents bytes (bit ∷ bits) s whole h first all
 
-pub inside_tells : (limits : Limits) (bytes : List ℕ) (w : FileWork) (rows : RowWork) (whole : Picture) → (r : RowsInside limits bytes w rows whole) → PlaceTells limits r.items r.contents bytes whole (scan_left r.scan)
+pub inside_tells : (limits : Limits) (bytes : List ℕ) (w : FileState) (rows : RowWork) (whole : Picture) → (r : RowsInside limits bytes w rows whole) → PlaceTells limits r.items r.contents bytes whole (scan_left r.scan)
 inside_tells limits bytes w rows whole r =
-    let first = (r.held).of in
+    let first = r.of in
     rest_tells limits r.items r.contents bytes rows.waiting r.scan whole r.coded first (scan_of_all limits r.items r.contents rows (scan_left r.scan) first (r.at).at)
 
 -- only the bytes up to the place
@@ -456,12 +456,12 @@ row_in_range precision tops whole row of range = record {
     value i x y k false e = subst (λ l. is_coefficient (bounds_of precision) k (get_or l k (pos 0)) ≡ true) (sym (outside i x y e)) (block_in_range precision (zeros 64) k (zeros_bounded precision true 64))
 
 -- while a file is read inside the scan, and when an MCU row is complete
-pub inside_in_range : (limits : Limits) (bytes : List ℕ) (w : FileWork) (rows : RowWork) (whole : Picture) → (r : RowsInside limits bytes w rows whole) → IsRowOf rows.tops whole rows.coefs
+pub inside_in_range : (limits : Limits) (bytes : List ℕ) (w : FileState) (rows : RowWork) (whole : Picture) → (r : RowsInside limits bytes w rows whole) → IsRowOf rows.tops whole rows.coefs
     → AreInRange (bounds (frame_behind limits r.items)) (map_of rows.coefs)
 inside_in_range limits bytes w rows whole r of =
-    row_in_range (frame_behind limits r.items).precision rows.tops whole rows.coefs of (rest_in_range limits r.items r.contents bytes rows.waiting r.scan whole r.coded (r.held).of)
+    row_in_range (frame_behind limits r.items).precision rows.tops whole rows.coefs of (rest_in_range limits r.items r.contents bytes rows.waiting r.scan whole r.coded r.of)
 
-pub given_in_range : (limits : Limits) (bytes : List ℕ) (w : FileWork) (rows : RowWork) → (k : RowIsWhole limits bytes w rows) → AreInRange (bounds (frame_behind limits k.inside.items)) (map_of rows.coefs)
+pub given_in_range : (limits : Limits) (bytes : List ℕ) (w : FileState) (rows : RowWork) → (k : RowIsWhole limits bytes w rows) → AreInRange (bounds (frame_behind limits k.inside.items)) (map_of rows.coefs)
 given_in_range limits bytes w rows k = inside_in_range limits bytes w rows k.whole k.inside k.row
 
 -- From the MCU rows that were passed, and how many of the scan aren't complete yet, to those that the bytes complete.
@@ -492,7 +492,7 @@ pub record RowFed (limits : Limits) (bytes : List ℕ) (before : List Segment) (
   pub range : AreInRange (bounds (frame_of limits before)) (map_of rows.coefs)
   pub row : AreOfRow (frame_of limits before) m rows.coefs blocks
 
-fed_here : (limits : Limits) (bytes : List ℕ) (w : FileWork) (rows : RowWork) (m : ℕ) → (k : RowIsWhole limits bytes w rows) → BeginsScanOfAll limits bytes (segments_of k.inside.items) k.inside.contents
+fed_here : (limits : Limits) (bytes : List ℕ) (w : FileState) (rows : RowWork) (m : ℕ) → (k : RowIsWhole limits bytes w rows) → BeginsScanOfAll limits bytes (segments_of k.inside.items) k.inside.contents
     → m + (unfinished rows + 1) ≡ rows_of_scan limits (segments_of k.inside.items) k.inside.contents → RowFed limits bytes (segments_of k.inside.items) k.inside.contents m rows
 fed_here limits bytes w rows m k begins count =
     let r = k.inside in
@@ -501,7 +501,7 @@ fed_here limits bytes w rows m k begins count =
     let is : t.m ≡ m + 1 = omega (arith, t.count, count) in
     let due : unfinished rows ≡ rows.later + 0 = ap (λ n. rows.later + cond (n == 0) 0 1) k.left in
     let last : ((r.at).at).row ≡ m = omega (arith, due, ((r.at).at).count, count) in
-    let framed = rest_framed limits r.items r.contents bytes rows.waiting r.scan k.whole r.coded (r.held).of in
+    let framed = rest_framed limits r.items r.contents bytes rows.waiting r.scan k.whole r.coded r.of in
     let head = head_there limits (segments_of r.items) r.contents begins.unbroken in
     record {
       blocks = blocks_in (row_places limits (segments_of r.items) r.contents (m + 1)) (map_of k.whole);
@@ -511,7 +511,7 @@ fed_here limits bytes w rows m k begins count =
       row = row_blocks limits r.items r.contents k.whole rows left m k.row framed (r.at).at last (λ i lt. head_names (frame_behind limits r.items) (head_in (frame_behind limits r.items) r.contents) i head ((r.at).at).all lt);
     }
 
-pub row_fed : (limits : Limits) (bytes : List ℕ) (before : List Segment) (contents : List ℕ) (w : FileWork) (rows : RowWork) (m : ℕ) → BeginsScanOfAll limits bytes before contents → RowIsWhole limits bytes w rows
+pub row_fed : (limits : Limits) (bytes : List ℕ) (before : List Segment) (contents : List ℕ) (w : FileState) (rows : RowWork) (m : ℕ) → BeginsScanOfAll limits bytes before contents → RowIsWhole limits bytes w rows
     → m + (unfinished rows + 1) ≡ rows_of_scan limits before contents → RowFed limits bytes before contents m rows
 row_fed limits bytes before contents w rows m begins k count =
     let r = k.inside in

@@ -27,8 +27,8 @@ use Rattle.jpg_spec.proofs.Headers.FrameFound.{framed}
 use Rattle.jpg_spec.proofs.McuRows.RowCounts.{head_below, head_names}
 use Rattle.jpg_scans.specs.declared.progress.Progress.{Progress}
 use Rattle.jpg_file.specs.Read.SegmentState.{HasBegunAll, RepresentsHeads, HasBegun, segments_view, Holds, SegmentView, JudgesHead, is_wanted}
-use Rattle.jpg_file.specs.Read.File.{HasCompleteHeader, NotesHead, head_or, AfterFileByte, RepresentsFile, AfterHead, HeadWhole, waiting_bytes, with_coefs}
-use Rattle.jpg_file.specs.declared.read.file.FileWork.{FileWork}
+use Rattle.jpg_file.specs.Read.File.{HasCompleteHeader, NotesHead, head_or, AfterFileByte, RepresentsFile, AfterHead, HeadWhole, waiting_bytes, with_picture, TakesHead, limits_of}
+use Rattle.jpg_file.specs.declared.read.file.FileState.{FileState}
 use Rattle.jpg_file.proofs.Files.FileSteps.{frame_held, FrameFor, unbroken, head_is, head_left, front_of}
 use Rattle.jpg_spec.proofs.McuRows.RowsLater.{any_named, blank}
 use Rattle.std.proofs.lemmas.Bool.{cases_lt}
@@ -44,12 +44,12 @@ use Rattle.jpg_file.specs.Read.ScanStart.{HasSizes}
 use Rattle.jpg_file.specs.Read.Items.{BehindHead, AfterSegment}
 use Rattle.jpg_file.specs.Read.FirstHeader.{HasHead, first_header_of, colours_by, HasNoHead, IsFirstHeader, IsFirstHeaderOf}
 use Rattle.jpg_file.specs.Read.InData.{InData, scan_left, InRowData, IsRowIn, zero_picture, unfinished}
-use Rattle.jpg_file.specs.Read.Strips.{GoesByRow, IsHeadOfAll, components_of, contents_held, frame_behind, rows_of_all, BeginsAll, HoldsScan, RowsKnown, TellsScan, TellsStrip, rows_of_scan, FindsNone, HasNoRows, NoRowsIn, NoneAfter, AfterScanBegins}
+use Rattle.jpg_file.specs.Read.Strips.{GoesByRow, IsHeadOfAll, components_of, contents_held, frame_behind, rows_of_all, BeginsAll, HoldsScan, RowsKnown, TellsScan, TellsStrip, rows_of_scan, FindsNone, HasNoRows, NoRowsIn, NoneAfter, AfterScanBegins, FindsHead}
 use Rattle.jpg_file.specs.declared.read.scan_history.ScanHistory.{ScanHistory}
 use Rattle.jpg_file.specs.declared.read.items.Items.{Items}
 use Rattle.jpg_file.specs.declared.read.rows.RowWork.{RowWork}
 use Rattle.jpg_file.specs.declared.read.scan.InScan.{InScan}
-use Rattle.jpg_file.proofs.Headers.InForce.{noted, heads_first, adobe_same, filter_reverse, quant_sound}
+use Rattle.jpg_file.proofs.Headers.InForce.{noted, heads_first, adobe_same, filter_reverse, quant_sound, all_once}
 use Rattle.jpg_spec.proofs.Basics.Each.{Each}
 use Rattle.jpg_base.specs.Cursor.{scan_mcus_down}
 use Rattle.jpg_file.specs.declared.read.first_header.Head.{Head}
@@ -71,6 +71,7 @@ use Rattle.jpg_base.specs.declared.stop.Stop.{Stop}
 use Rattle.jpg_base.specs.declared.stop.Stop.TheVariants as stop
 use Rattle.jpg_file.specs.declared.read.step.Step.{Step}
 use Rattle.jpg_file.specs.declared.read.step.Step.TheVariants as step
+use Rattle.jpg_file.specs.declared.read.window.Window.{Window}
 
 four_by : (zero_told told : Bool) → may_have 4 (if zero_told then Cmyk else if told then Ycck else Cmyk) ≡ true
 four_by true told = refl
@@ -133,7 +134,7 @@ all_begun (Some p) f head heads s k all sequential = λ g others t. (
 )
 
 -- no header is accepted
-pub none_accepted : (limits : Limits) (bytes : List ℕ) (w : FileWork) (f : Frame) (contents : List ℕ) (head : ScanHead) → HasCompleteHeader limits bytes w → HasBegunAll w.begun.progress → w.items.held.frame ≡ Some f
+pub none_accepted : (limits : Limits) (bytes : List ℕ) (w : FileState) (f : Frame) (contents : List ℕ) (head : ScanHead) → HasCompleteHeader limits bytes w → HasBegunAll w.begun.progress → w.items.held.frame ≡ Some f
     → JudgesHead contents f (segments_view w.items.held) w.begun (Ok head) → ⊥
 none_accepted limits bytes w f contents head h begun is judges =
     let s = h.at in
@@ -150,7 +151,7 @@ none_accepted limits bytes w f contents head h begun is judges =
     clash (is_repeated g heads at.head) again (at.is_admitted).repeated
 
 -- and there is a frame
-pub frame_there : (limits : Limits) (bytes : List ℕ) (w : FileWork) → HasCompleteHeader limits bytes w → w.items.held.frame ≡ None → ⊥
+pub frame_there : (limits : Limits) (bytes : List ℕ) (w : FileState) → HasCompleteHeader limits bytes w → w.items.held.frame ≡ None → ⊥
 frame_there limits bytes w h none =
     let s = h.at in
     let allowed = subst (λ n. code_fault (segments_of h.items) n ≡ None) h.code s.allowed in
@@ -161,7 +162,7 @@ frame_there limits bytes w h none =
 -- The first scan of a file that is read MCU row by MCU row begins.
 
 -- THE HEADER
-pub head_found : (limits : Limits) (bytes : List ℕ) (w : FileWork) (f : Frame) (head : ScanHead) (contents : List ℕ) → (h : HasCompleteHeader limits bytes w) → w.items.held.frame ≡ Some f → contents ≡ contents_held w → is_progressive f.process ≡ false → length head.parts ≡ length f.components
+pub head_found : (limits : Limits) (bytes : List ℕ) (w : FileState) (f : Frame) (head : ScanHead) (contents : List ℕ) → (h : HasCompleteHeader limits bytes w) → w.items.held.frame ≡ Some f → contents ≡ contents_held w → is_progressive f.process ≡ false → length head.parts ≡ length f.components
     → JudgesHead contents f (segments_view w.items.held) w.begun (Ok head) → IsHeadOfAll limits h.items (contents_held w) f head
 head_found limits bytes w f head contents h is same sequential all judges =
     let s = h.at in
@@ -178,7 +179,7 @@ components_all f head all = length-map head.parts (λ (p : ScanPart). p.componen
 pub zero_sizes : (f : Frame) → HasSizes (zero_picture f)
 zero_sizes f i x y = ap (λ (m : Blocks). length (m i x y)) (blank_is (zero_picture f) (padded_blocks f) refl) ∙ length-replicate 64 (pos 0)
 
-pub zero_whole : (limits : Limits) (bytes : List ℕ) (w : FileWork) (f : Frame) → (h : HasCompleteHeader limits bytes w) → frame_behind limits h.items ≡ f → IsFrame f → has_scan (segments_of h.items) ≡ false → HeadWhole limits bytes h.items h.blocks (with_coefs w (zero_picture f))
+pub zero_whole : (limits : Limits) (bytes : List ℕ) (w : FileState) (f : Frame) → (h : HasCompleteHeader limits bytes w) → frame_behind limits h.items ≡ f → IsFrame f → has_scan (segments_of h.items) ≡ false → HeadWhole limits bytes h.items h.blocks (with_picture w (zero_picture f))
 zero_whole limits bytes w f h is is_frame first =
     let before = segments_of h.items in
     let allowed = subst (λ n. code_fault before n ≡ None) h.code (h.at).allowed in
@@ -199,7 +200,7 @@ zero_whole limits bytes w f h is is_frame first =
       same = (h.beside).same;
     }
 
-pub first_of : (limits : Limits) (bytes : List ℕ) (w : FileWork) → (h : HasCompleteHeader limits bytes w) → w.head ≡ None → has_scan (segments_of h.items) ≡ false
+pub first_of : (limits : Limits) (bytes : List ℕ) (w : FileState) → (h : HasCompleteHeader limits bytes w) → w.head ≡ None → has_scan (segments_of h.items) ≡ false
 first_of limits bytes w h none = subst (λ o. HasHead limits bytes (segments_of h.items) o) none (h.beside).head
 
 -- ROOM for a segment changes nothing
@@ -208,12 +209,12 @@ room_made limits items contents old s e h = record {
   sent = h.sent;
   stands = subst (λ r. RepresentsSegments h.sent ((0xda, contents) ∷ segments_of items) r) (sym e) h.stands;
   behind = subst (λ r. IsAfterScan r) (sym e) h.behind;
-  bounded = (ap (λ r. r.limits) e ∙ (h.bounded).0, (h.bounded).1);
+  bounded = ap (λ r. r.limits) e ∙ h.bounded;
   holds = h.holds;
 }
 
-pub head_room : (limits : Limits) (bytes : List ℕ) (items : List Item) (old : Items) (taken : FileWork) (z : Picture) (s : SegmentReader) → reading_of s ≡ reading_of (taken.items).segments → AfterHead limits bytes items old (Ok tt) (with_coefs taken z)
-    → AfterHead limits bytes items old (Ok tt) (with_coefs (record taken { items = record taken.items { segments = s } }) z)
+pub head_room : (limits : Limits) (bytes : List ℕ) (items : List Item) (old : Items) (taken : FileState) (z : Picture) (s : SegmentReader) → reading_of s ≡ reading_of (taken.items).segments → AfterHead limits bytes items old (Ok tt) (with_picture taken z)
+    → AfterHead limits bytes items old (Ok tt) (with_picture (record taken { items = record taken.items { segments = s } }) z)
 head_room limits bytes items old taken z s e a =
     let k = a.0 in (
       record {
@@ -257,17 +258,36 @@ begun_here limits items contents b f head k h =
 
 -- The first scan of a file begins, and has all its components: the file before its header is taken, after it, and
 -- where that header is noted.
-pub record FirstBegins (limits : Limits) (bytes : List ℕ) (old new : FileWork) : Type 0 where
-  pub taken : FileWork
+pub record FirstBegins (limits : Limits) (bytes : List ℕ) (old new : FileState) : Type 0 where
+  pub taken : FileState
   pub frame : Frame
   pub head : ScanHead
   pub stands : HasCompleteHeader limits bytes old
   pub of_all : IsHeadOfAll limits stands.items (contents_held old) frame head
   pub first : has_scan (segments_of stands.items) ≡ false
-  pub after : AfterHead limits bytes stands.items old.items (Ok tt) (with_coefs taken (zero_picture frame))
+  pub after : AfterHead limits bytes stands.items old.items (Ok tt) (with_picture taken (zero_picture frame))
   pub notes : NotesHead taken new
 
-module _ (limits : Limits) (bytes : List ℕ) (old new : FileWork) (b : FirstBegins limits bytes old new) where
+-- by a header that is taken with a picture of zeros, and room for a segment after it
+abbrev pub first_begins : (w read new : FileState) (f : Frame) (head : ScanHead) (s : SegmentReader) → IsFrame f → FindsHead w (Some (f, head)) → w.head ≡ None
+    → ((now : Picture) → HasSizes now → TakesHead (with_picture w now) (Ok tt) (with_picture read now)) → reading_of s ≡ reading_of read.items.segments
+    → NotesHead (record read { items = record read.items { segments = s } }) new → (bytes : List ℕ) → HasCompleteHeader (limits_of w) bytes w → FirstBegins (limits_of w) bytes w new
+first_begins w read new f head s is_frame finds first after same notes bytes h =
+    let z = zero_picture f in
+    let k = finds (limits_of w) bytes h in
+    let before = first_of (limits_of w) bytes w h first in
+    record {
+      taken = record read { items = record read.items { segments = s } };
+      frame = f;
+      head = head;
+      stands = h;
+      of_all = k;
+      first = before;
+      after = head_room (limits_of w) bytes h.items w.items read z s same (after z (zero_sizes f) bytes h.items h.blocks (zero_whole (limits_of w) bytes w f h k.framed is_frame before));
+      notes = notes;
+    }
+
+module _ (limits : Limits) (bytes : List ℕ) (old new : FileState) (b : FirstBegins limits bytes old new) where
   -- the segments before it, and its contents
   abbrev before : List Segment
   before = segments_of (b.stands).items
@@ -291,8 +311,8 @@ module _ (limits : Limits) (bytes : List ℕ) (old new : FileWork) (b : FirstBeg
   pub rows_begun : (rows : RowWork) → b.taken.head ≡ old.head
       → ((scan : InScan) → b.taken.scan ≡ Some scan → scan_left scan ≡ length (scan_after limits before contents).places)
       → IsRowOf rows.tops z rows.coefs → IsRowIn b.frame (head_components b.head) rows (length (units b.frame (head_components b.head)))
-      → rows.waiting ≡ [] → rows.left ≡ rows.units → GoesByRow limits bytes new rows
-  rows_begun rows kept left row at empty whole =
+      → rows.waiting ≡ [] → rows.left ≡ rows.units → (o : Window) (strip : Option StripHead) → GoesByRow limits bytes (record new { window = o; strip = strip }) rows
+  rows_begun rows kept left row at empty whole o strip =
       let h = b.stands in
       let k = b.of_all in
       let taken = b.taken in
@@ -300,11 +320,11 @@ module _ (limits : Limits) (bytes : List ℕ) (old new : FileWork) (b : FirstBeg
       let s = (b.after).0 in
       let had = subst (λ o. HasHead limits bytes before o) (sym kept) (h.beside).head in
       let now = noted limits bytes h.items h.blocks old.items contents (segments_view taken.items.held) frame_kept.frame taken.taken taken.head h.at h.code refl
-      (unbroken limits h.items contents bytes (with_coefs taken z) s) holds frame_kept.has s.count had in
-      let coded : InData limits h.items contents bytes s.scan z = subst (λ (q : Picture). InData limits h.items contents bytes s.scan q) (some_once s.coefs z (sym s.has)) s.at in
+      (unbroken limits h.items contents bytes (with_picture taken z) s) holds frame_kept.has s.count had in
+      let coded : InData limits h.items contents bytes s.scan z = subst (λ (q : Picture). InData limits h.items contents bytes s.scan q) (all_once s.coefs z (sym s.has)) s.at in
       let in_scan = row_as limits h.items contents b.frame b.head rows (scan_left s.scan) k.framed k.told (left s.scan s.inside) at in
       let sum = (in_scan.at).sum in
-      subst (λ (w : FileWork). GoesByRow limits bytes w rows) (sym b.notes)
+      subst (λ (w : FileState). GoesByRow limits bytes (record w { window = o; strip = strip }) rows) (sym b.notes)
       (record {
         stands = record {
           whole = z;
@@ -322,9 +342,9 @@ module _ (limits : Limits) (bytes : List ℕ) (old new : FileWork) (b : FirstBeg
               begun = begun;
               within = (h.beside).within;
               first_head = now;
-              of = record { first = b.first; sequential = ap (λ (g : Frame). is_progressive g.process) k.framed ∙ k.sequential };
-              all = begun_here limits h.items contents taken.begun b.frame b.head k begun;
             };
+            of = record { first = b.first; sequential = ap (λ (g : Frame). is_progressive g.process) k.framed ∙ k.sequential };
+            all = begun_here limits h.items contents taken.begun b.frame b.head k begun;
             at = in_scan;
           });
         };
@@ -362,14 +382,14 @@ frame_or f (Some h) = h.frame
 told_frame : (t : SegmentView) (n : ℕ) (f : Frame) (kept : Head) → t.frame ≡ Some f → first_header_of t n ≡ Some kept → kept.frame ≡ f
 told_frame t n f kept is e = ap (λ (o : Option Head). frame_or f o) (sym e) ∙ ap (λ (o : Option Frame). frame_or f (first_header_of (record t { frame = o }) n)) is
 
-pub kept_frame : (limits : Limits) (bytes : List ℕ) (old new : FileWork) (kept : Head) (b : FirstBegins limits bytes old new) → b.taken.head ≡ None
+pub kept_frame : (limits : Limits) (bytes : List ℕ) (old new : FileState) (kept : Head) (b : FirstBegins limits bytes old new) → b.taken.head ≡ None
     → new.head ≡ Some kept → kept.frame ≡ b.frame
 kept_frame limits bytes old new kept b none is =
     let taken = b.taken in
     let held = frame_kept limits bytes old new b in
     let has : taken.items.held.frame ≡ Some b.frame = held.has ∙ ap (λ (g : Frame). Some g) (sym held.is ∙ (b.of_all).framed) in
     let told = first_header_of (segments_view taken.items.held) taken.taken in
-    told_frame (segments_view taken.items.held) taken.taken b.frame kept has (sym (ap (λ (w : FileWork). w.head) b.notes ∙ ap (λ (o : Option Head). head_or o told) none) ∙ is)
+    told_frame (segments_view taken.items.held) taken.taken b.frame kept has (sym (ap (λ (w : FileState). w.head) b.notes ∙ ap (λ (o : Option Head). head_or o told) none) ∙ is)
 
 -- The head of the picture whose MCU rows are read, as it is where the first scan begins.
 
@@ -386,7 +406,7 @@ held_colour limits before h k =
     ap (λ (j : Jfif). colours_by f j h.kept) (held_jfif limits before h k) ∙ ap (λ (a : Option ℕ). colours_of (length f.components) (identifiers f.components) (jfif_of kept).seen a) held
 
 -- THE HEAD
-pub record IsHeld (w : FileWork) (h : StripHead) : Type 0 where
+pub record IsHeld (w : FileState) (h : StripHead) : Type 0 where
   pub frame : w.items.held.frame ≡ Some h.frame
   pub is_frame : IsFrame h.frame
   pub colour : h.colour ≡ colours_by h.frame (segments_view w.items.held).jfif (segments_view w.items.held).kept
@@ -394,7 +414,7 @@ pub record IsHeld (w : FileWork) (h : StripHead) : Type 0 where
   pub tables : (i : ℕ) → i < length h.frame.components → slice_index_or h.quants.items i [] ≡ unwrap_or (quant_in w.begun.quants i) []
   pub jfif : h.jfif ≡ (segments_view w.items.held).jfif
 
-module _ (limits : Limits) (before : List Segment) (w : FileWork) (k : HoldsScan limits before w) where
+module _ (limits : Limits) (before : List Segment) (w : FileState) (k : HoldsScan limits before w) where
   pub held_frame : (f : Frame) → w.items.held.frame ≡ Some f → frame_of limits before ≡ f
   held_frame f is = ap (λ (o : Option Frame). unwrap_or o no_frame) (sym (k.holds).frame ∙ is)
 
@@ -425,7 +445,7 @@ module _ (limits : Limits) (before : List Segment) (w : FileWork) (k : HoldsScan
 colour_fits : (f : Frame) (c : Colour) (j : Jfif) (kept : List Segment) → IsFrame f → c ≡ colours_by f j kept → may_have (length f.components) c ≡ true
 colour_fits f c j kept is e = ap (may_have (length f.components)) e ∙ colours_fit (length f.components) (identifiers f.components) j.seen (adobe_transform kept) is.count_low is.count_high
 
-pub strip_tells : (w : FileWork) (h : StripHead) → IsHeld w h → TellsScan w h
+pub strip_tells : (w : FileState) (h : StripHead) → IsHeld w h → TellsScan w h
 strip_tells w h l limits before k = (
   sym same,
   λ blocks. record {
@@ -451,7 +471,7 @@ strip_tells w h l limits before k = (
         (λ i low. ap (λ (t : QuantTable). let c : PictureComponent = record { id = (component_at h.frame i).id; h = (component_at h.frame i).h; v = (component_at h.frame i).v; quants = t } in c) (table_of limits before w k h i l low)))))
 
 -- WHERE THE SCAN BEGINS
-pub begins_told : (limits : Limits) (bytes : List ℕ) (old new : FileWork) (b : FirstBegins limits bytes old new)
+pub begins_told : (limits : Limits) (bytes : List ℕ) (old new : FileState) (b : FirstBegins limits bytes old new)
     → BeginsAll limits bytes (segments_of (b.stands).items) (contents_held old) new
 begins_told limits bytes old new b =
     let h = b.stands in
@@ -461,7 +481,7 @@ begins_told limits bytes old new b =
     let all : List Segment = (0xda, contents) ∷ before in
     let s = (b.after).0 in
     let begun = (b.after).1 in
-    let rule = unbroken limits h.items contents bytes (with_coefs b.taken (zero_picture b.frame)) s in
+    let rule = unbroken limits h.items contents bytes (with_picture b.taken (zero_picture b.frame)) s in
     let x = heads_first limits bytes h.items h.blocks old.items contents h.at h.code refl b.first rule in
     let held = frame_kept limits bytes old new b in
     let told : head_in (frame_of limits before) contents ≡ b.head = ap (λ (g : Frame). head_in g contents) k.framed ∙ k.told in
@@ -478,11 +498,11 @@ begins_told limits bytes old new b =
           all = ap (λ (x : ScanHead). length (head_components x)) told ∙ components_all b.frame b.head k.all ∙ ap (λ (g : Frame). length g.components) (sym k.framed);
         };
       };
-      holds = subst (λ (w : FileWork). HoldsScan limits all w) (sym b.notes) (record { holds = (s.head).holds; begun = begun; all = begun_here limits h.items contents b.taken.begun b.frame b.head k begun; frame = held.frame; has = held.has });
+      holds = subst (λ (w : FileState). HoldsScan limits all w) (sym b.notes) (record { holds = (s.head).holds; begun = begun; all = begun_here limits h.items contents b.taken.begun b.frame b.head k begun; frame = held.frame; has = held.has });
     }
 
 -- its MCU rows are counted, and the head of its picture is known
-pub rows_known : (limits : Limits) (bytes : List ℕ) (before : List Segment) (contents : List ℕ) (new : FileWork) (rows : RowWork) (strip : StripHead)
+pub rows_known : (limits : Limits) (bytes : List ℕ) (before : List Segment) (contents : List ℕ) (new : FileState) (rows : RowWork) (strip : StripHead)
     → BeginsAll limits bytes before contents new → unfinished rows ≡ rows_of_scan limits before contents → TellsScan new strip
     → RowsKnown limits bytes 0 rows (Some strip)
 rows_known limits bytes before contents new rows strip b count tells = record {
@@ -544,15 +564,15 @@ seen_head : (limits : Limits) (bytes : List ℕ) (o : Option Head) → is_some o
 seen_head limits bytes None some k = absurd cc
 seen_head limits bytes (Some h) some k = (h, k)
 
-pub none_seen : (limits : Limits) (bytes more : List ℕ) (w : FileWork) → RepresentsFile limits bytes w → is_some w.head ≡ true → HasNoRows limits bytes → HasNoRows limits (bytes ++ more)
+pub none_seen : (limits : Limits) (bytes more : List ℕ) (w : FileState) → RepresentsFile limits bytes w → is_some w.head ≡ true → HasNoRows limits bytes → HasNoRows limits (bytes ++ more)
 none_seen limits bytes more w s some none = (let k = seen_head limits bytes w.head some (head_is limits bytes w s) in none_more limits bytes more k.0 k.1 none)
 
 -- before it none did
-pub none_before : (limits : Limits) (bytes : List ℕ) (w : FileWork) → RepresentsFile limits bytes w → w.head ≡ None → HasNoRows limits bytes
+pub none_before : (limits : Limits) (bytes : List ℕ) (w : FileState) → RepresentsFile limits bytes w → w.head ≡ None → HasNoRows limits bytes
 none_before limits bytes w s none = no_rows limits bytes (let k = subst (λ (o : Option Head). IsFirstHeaderOf limits bytes o) none (head_is limits bytes w s) in k)
 
 -- after bytes that change nothing of it
-pub none_passed : (limits : Limits) (bytes more : List ℕ) (w mid : FileWork) (o : Option Head) → w.head ≡ o → mid.head ≡ o → RepresentsFile limits bytes w → RepresentsFile limits (bytes ++ more) mid → HasNoRows limits bytes → HasNoRows limits (bytes ++ more)
+pub none_passed : (limits : Limits) (bytes more : List ℕ) (w mid : FileState) (o : Option Head) → w.head ≡ o → mid.head ≡ o → RepresentsFile limits bytes w → RepresentsFile limits (bytes ++ more) mid → HasNoRows limits bytes → HasNoRows limits (bytes ++ more)
 none_passed limits bytes more w mid None was is k after none = none_before limits (bytes ++ more) mid after is
 none_passed limits bytes more w mid (Some head) was is k after none = none_seen limits bytes more w k (ap is_some was) none
 
@@ -573,7 +593,7 @@ none_at_fault limits front byte fault shown none before contents b = by (cases_l
 -- THE FIRST SCAN HEADER
 
 -- it is of another scan
-pub none_other : (limits : Limits) (bytes : List ℕ) (w : FileWork) (f : Frame) (head : ScanHead) (contents : List ℕ) → (h : HasCompleteHeader limits bytes w) → w.items.held.frame ≡ Some f → contents ≡ contents_held w
+pub none_other : (limits : Limits) (bytes : List ℕ) (w : FileState) (f : Frame) (head : ScanHead) (contents : List ℕ) → (h : HasCompleteHeader limits bytes w) → w.items.held.frame ≡ Some f → contents ≡ contents_held w
     → JudgesHead contents f (segments_view w.items.held) w.begun (Ok head) → (is_progressive f.process ≡ false → length head.parts ≡ length f.components → ⊥) → IsScanOfAll limits (segments_of h.items) (contents_held w) → ⊥
 none_other limits bytes w f head contents h is same judges other all =
     let s = h.at in
@@ -586,7 +606,7 @@ none_other limits bytes w f head contents h is same judges other all =
     (sym (length-map head.parts (λ (p : ScanPart). p.component)) ∙ ap (λ (x : ScanHead). length (head_components x)) (sym told) ∙ count)
 
 -- SO NONE BEGINS with its last byte
-pub none_found : (limits : Limits) (front : List ℕ) (byte : ℕ) (w : FileWork) → (h : HasCompleteHeader limits (front ++ byte ∷ []) w) → w.head ≡ None → FindsNone w None → HasNoRows limits front → HasNoRows limits (front ++ byte ∷ [])
+pub none_found : (limits : Limits) (front : List ℕ) (byte : ℕ) (w : FileState) → (h : HasCompleteHeader limits (front ++ byte ∷ []) w) → w.head ≡ None → FindsNone w None → HasNoRows limits front → HasNoRows limits (front ++ byte ∷ [])
 none_found limits front byte w h first finds none = by (contents_rule limits before 0xda (contents_held w)) refl
   where
     all : List ℕ
@@ -619,7 +639,7 @@ none_after limits bytes (step.Ended stop.NoMemory) rows none = tt
 none_after limits bytes other rows none = none_in limits bytes rows none
 
 -- a scan that doesn't begin
-pub none_begun : (limits : Limits) (front : List ℕ) (byte : ℕ) (w : FileWork) (e : Stop) (rows : Option RowWork) → AfterScanBegins limits (front ++ byte ∷ []) (Err e) w → HasNoRows limits front → NoneAfter limits (front ++ byte ∷ []) (step.Ended e) rows
+pub none_begun : (limits : Limits) (front : List ℕ) (byte : ℕ) (w : FileState) (e : Stop) (rows : Option RowWork) → AfterScanBegins limits (front ++ byte ∷ []) (Err e) w → HasNoRows limits front → NoneAfter limits (front ++ byte ∷ []) (step.Ended e) rows
 none_begun limits front byte w (stop.Fault f) rows a none = none_in limits (front ++ byte ∷ []) rows (none_at_fault limits front byte f.fault a.1 none)
 none_begun limits front byte w stop.NoMemory rows a none = tt
 
@@ -628,7 +648,7 @@ pub none_fault : (limits : Limits) (front : List ℕ) (byte : ℕ) (f : FaultAt)
 none_fault limits front byte f rows shown none = none_in limits (front ++ byte ∷ []) rows (none_at_fault limits front byte f.fault shown none)
 
 -- only a byte before the first scan header may begin one
-pub none_headed : (limits : Limits) (front : List ℕ) (byte : ℕ) (w : FileWork) (answer : Step) (rows : Option RowWork) → RepresentsFile limits front w → HasNoRows limits front → (w.head ≡ None → NoneAfter limits (front ++ byte ∷ []) answer rows)
+pub none_headed : (limits : Limits) (front : List ℕ) (byte : ℕ) (w : FileState) (answer : Step) (rows : Option RowWork) → RepresentsFile limits front w → HasNoRows limits front → (w.head ≡ None → NoneAfter limits (front ++ byte ∷ []) answer rows)
     → NoneAfter limits (front ++ byte ∷ []) answer rows
 none_headed limits front byte w answer rows k none first = by w.head refl
   where
@@ -637,7 +657,7 @@ none_headed limits front byte w answer rows k none first = by w.head refl
     by (Some head) is = none_after limits (front ++ byte ∷ []) answer rows (none_seen limits front (byte ∷ []) w k (ap is_some is) none)
 
 -- a byte of a file that is read in one go, after which the first scan header is the one that it was
-pub none_plain : (asks : Type 0) (limits : Limits) (front : List ℕ) (byte : ℕ) (w new : FileWork) (answer : Step) (rows : Option RowWork) → RepresentsFile limits front w → new.head ≡ w.head
+pub none_plain : (asks : Type 0) (limits : Limits) (front : List ℕ) (byte : ℕ) (w new : FileState) (answer : Step) (rows : Option RowWork) → RepresentsFile limits front w → new.head ≡ w.head
     → AfterFileByte asks limits (front ++ byte ∷ []) answer new → HasNoRows limits front → NoneAfter limits (front ++ byte ∷ []) answer rows
 none_plain asks limits front byte w new answer rows k same a none = none_headed limits front byte w answer rows k none (λ first. plain answer first a)
   where

@@ -27,8 +27,8 @@ use Rattle.jpg_spec.specs.Items.{Item, segments_of}
 use Rattle.jpg_spec.specs.FileMeaning.{scan_after, Leads}
 use Rattle.jpg_spec.specs.Scan.{Scan, Blocks}
 use Rattle.jpg_spec.proofs.Basics.Common.{some_once, neither, clash}
-use Rattle.jpg_file.specs.Read.Strips.{PassesRest, row_stored, AfterRows, IsFirstScan, RowsInside, ScanHeld, components_of, frame_behind, GoesByRow, RowsAfter, RepresentsRows}
-use Rattle.jpg_file.specs.declared.read.file.FileWork.{FileWork}
+use Rattle.jpg_file.specs.Read.Strips.{PassesRest, AfterRows, IsFirstScan, RowsInside, components_of, frame_behind, GoesByRow, RowsAfter, RepresentsRows}
+use Rattle.jpg_file.specs.declared.read.file.FileState.{FileState}
 use Rattle.jpg_file.specs.declared.read.scan.InScan.{InScan}
 use Rattle.jpg_file.specs.declared.read.step.Step.TheVariants as step
 use Rattle.jpg_file.proofs.Scans.Machines.{head_kind, kind_of_coding, scans_keep_units}
@@ -37,8 +37,11 @@ use Rattle.jpg_spec.specs.Markers.{has_scan}
 use Rattle.jpg_spec.specs.PictureInWork.{ScanSoFar, is_at}
 use Rattle.jpg_spec.proofs.McuRows.RowsLater.{blank}
 use Rattle.jpg_spec.specs.declared.fault.Fault.{Fault}
-use Rattle.jpg_file.specs.Read.File.{IsStop, waiting_bytes}
+use Rattle.jpg_file.specs.Read.File.{IsStop, ScanHeld}
 use Rattle.jpg_file.specs.declared.read.step.Step.{Step}
+use Rattle.jpg_file.specs.declared.read.window.Window.TheVariants as window
+use Rattle.jpg_file.proofs.Files.FileSteps.{held_as}
+use Rattle.jpg_file.specs.Read.SegmentState.{HasBegunAll}
 
 -- The place of the machine of a scan that is read row by row: the places that are left, by their number.
 
@@ -170,7 +173,7 @@ no_bits (bit ∷ bits) f = (let z : false ≡ true = f (omega arith) in absurd c
 module _ (limits : Limits) (items : List Item) (contents bytes : List ℕ) where
   pub row_data : (s : InScan) (whole : Picture) (rows : RowWork) → InData limits items contents bytes s whole → IsFirstScan limits items
       → IsRowIn (frame_behind limits items) (components_of limits items contents) rows (scan_left s) → IsRowOf rows.tops whole rows.coefs
-      → (1 ≤ scan_left s → 1 ≤ rows.left) → IsDataOf RowWork row_stored s rows
+      → (1 ≤ scan_left s → 1 ≤ rows.left) → IsDataOf s (window.Row rows)
   row_data s whole rows d first at row turned = record {
     whole = whole;
     shows = row;
@@ -192,14 +195,14 @@ module _ (limits : Limits) (items : List Item) (contents bytes : List ℕ) where
 
   -- THE RESULT OF DATA without a fault
 
-  pub data_goes : (new : FileWork) (old : InScan) (s : InScan) (now : Picture) (rows after : RowWork) (row : Bool) → new.scan ≡ Some s
-      → InRowData limits items contents bytes after.waiting s now → ScanHeld limits items contents bytes new s.gate
+  pub data_goes : (new : FileState) (old : InScan) (s : InScan) (now : Picture) (rows after : RowWork) (row : Bool) → new.scan ≡ Some s
+      → InRowData limits items contents bytes after.waiting s now → ScanHeld limits items contents bytes new s.gate → IsFirstScan limits items → HasBegunAll new.begun.progress
       → IsRowIn (frame_behind limits items) (components_of limits items contents) rows (scan_left old) → IsRowOf after.tops now after.coefs
       → CountsScan old rows row s after → (1 ≤ scan_left old → 1 ≤ rows.left) → AfterRows limits bytes (cond row step.Row step.More) new after
-  data_goes new old s now rows after row inside coded held at of c turned = by row c
+  data_goes new old s now rows after row inside coded held first all at of c turned = by row c
     where
       within : (row : Bool) → CountsScan old rows row s after → RowsInside limits bytes new after now
-      within row c = record { items = items; contents = contents; scan = s; inside = inside; coded = coded; held = held; at = counts_in (frame_behind limits items) (components_of limits items contents) old s rows after row at c }
+      within row c = record { items = items; contents = contents; scan = s; inside = inside; coded = coded; held = held; of = first; all = all; at = counts_in (frame_behind limits items) (components_of limits items contents) old s rows after row at c }
 
       by : (row : Bool) → CountsScan old rows row s after → AfterRows limits bytes (cond row step.Row step.More) new after
       by true c = record { whole = now; row = of; inside = within true c; left = (c.whole refl).1 }
@@ -300,18 +303,20 @@ module _ (limits : Limits) (items : List Item) (contents bytes : List ℕ) where
 -- From one MCU row of a file to the next, and bits that waited.
 
 -- A ROW WITH UNITS that are left, inside the scan
-pub record RowReady (limits : Limits) (bytes : List ℕ) (w : FileWork) (scan : InScan) (rows : RowWork) : Type 0 where
+pub record RowReady (limits : Limits) (bytes : List ℕ) (w : FileState) (scan : InScan) (rows : RowWork) : Type 0 where
   pub items : List Item
   pub contents : List ℕ
   pub whole : Picture
   pub coded : InRowData limits items contents bytes rows.waiting scan whole
   pub held : ScanHeld limits items contents bytes w scan.gate
+  pub of : IsFirstScan limits items
+  pub all : HasBegunAll w.begun.progress
   pub at : IsRowIn (frame_behind limits items) (components_of limits items contents) rows (scan_left scan)
   pub row : IsRowOf rows.tops whole rows.coefs
   pub turned : 1 ≤ scan_left scan → 1 ≤ rows.left
 
 -- the scan is being read
-pub inside_row : (limits : Limits) (bytes : List ℕ) (w : FileWork) (rows : RowWork) → (k : RepresentsRows limits bytes w rows) → is_some w.scan ≡ true
+pub inside_row : (limits : Limits) (bytes : List ℕ) (w : FileState) (rows : RowWork) → (k : RepresentsRows limits bytes w rows) → is_some w.scan ≡ true
     → RowsInside limits bytes w rows k.whole
 inside_row limits bytes w rows k some = by k.at
   where
@@ -319,7 +324,7 @@ inside_row limits bytes w rows k some = by k.at
     by (inl r) = r
     by (inr b) = absurd (clash (is_some w.scan) some (ap is_some ((b.between).beside).none))
 
-module _ (limits : Limits) (bytes : List ℕ) (w : FileWork) (scan : InScan) (is : w.scan ≡ Some scan) where
+module _ (limits : Limits) (bytes : List ℕ) (w : FileState) (scan : InScan) (is : w.scan ≡ Some scan) where
   -- the next row is begun
   pub next_ready : (old new : RowWork) → RepresentsRows limits bytes w old → KeepsRowIn old new → TurnsRow old new → new.waiting ≡ old.waiting
       → RowReady limits bytes w scan new
@@ -327,7 +332,7 @@ module _ (limits : Limits) (bytes : List ℕ) (w : FileWork) (scan : InScan) (is
       let r = inside_row limits bytes w old k (ap is_some is) in
       let one : r.scan ≡ scan = some_once r.scan scan (sym r.inside ∙ is) in
       let at = keeps (frame_behind limits r.items) (components_of limits r.items r.contents) (scan_left r.scan) r.at in
-      let row = turns k.whole k.row (rest_blank limits r.items r.contents bytes old.waiting r.scan old k.whole r.coded (r.held).of r.at) in
+      let row = turns k.whole k.row (rest_blank limits r.items r.contents bytes old.waiting r.scan old k.whole r.coded r.of r.at) in
       subst (λ (s : InScan). RowReady limits bytes w s new) one
       (record {
         items = r.items;
@@ -335,6 +340,8 @@ module _ (limits : Limits) (bytes : List ℕ) (w : FileWork) (scan : InScan) (is
         whole = k.whole;
         coded = subst (λ z. InRowData limits r.items r.contents bytes z r.scan k.whole) (sym same) r.coded;
         held = r.held;
+        of = r.of;
+        all = r.all;
         at = at.0;
         row = row;
         turned = at.1;
@@ -353,39 +360,27 @@ module _ (limits : Limits) (bytes : List ℕ) (w : FileWork) (scan : InScan) (is
       let r = inside_row limits bytes w rows k (ap is_some is) in
       let one : r.scan ≡ scan = some_once r.scan scan (sym r.inside ∙ is) in
       subst (λ (s : InScan). RowReady limits bytes w s rows) one
-      (record { items = r.items; contents = r.contents; whole = k.whole; coded = r.coded; held = r.held; at = r.at; row = k.row; turned = g.turned r.scan r.inside })
+      (record { items = r.items; contents = r.contents; whole = k.whole; coded = r.coded; held = r.held; of = r.of; all = r.all; at = r.at; row = k.row; turned = g.turned r.scan r.inside })
 
 pub nothing : (bits : List Bool) → length bits ≡ 0 → bits ≡ []
 nothing [] e = refl
 nothing (bit ∷ bits) e = absurd (omega (arith, e))
 
--- THE FILE with a scan, and n bytes taken
-abbrev pub file_with : FileWork → InScan → ℕ → FileWork
-file_with w s n = record w { scan = Some s; taken = n }
-
-pub held_rest : (limits : Limits) (items : List Item) (contents bytes : List ℕ) (w : FileWork) (s : InScan) (gate now : Bool) → now ≡ gate → ScanHeld limits items contents bytes w gate → ScanHeld limits items contents bytes (file_with w s w.taken) now
-held_rest limits items contents bytes w s gate now e h = record {
-  head = h.head;
-  count = h.count;
-  behind = omega (arith, h.behind, ap waiting_bytes e);
-  begun = h.begun;
-  within = h.within;
-  first_head = h.first_head;
-  of = h.of;
-  all = h.all;
-}
+-- THE FILE with a current MCU row and a scan, and n bytes taken
+abbrev pub file_with : FileState → RowWork → InScan → ℕ → FileState
+file_with w rows s n = record w { window = window.Row rows; scan = Some s; taken = n }
 
 pub half_of : (limits : Limits) (items : List Item) (contents bytes : List ℕ) (waiting_bytes : List Bool) (s : InScan) (whole : Picture) → 1 ≤ length waiting_bytes → InRowData limits items contents bytes waiting_bytes s whole → HalfData limits items contents bytes waiting_bytes s whole
 half_of limits items contents bytes [] s whole some d = absurd (omega (arith, some))
 half_of limits items contents bytes (bit ∷ bits) s whole some h = h
 
-pub ready_goes : (limits : Limits) (bytes : List ℕ) (w : FileWork) (scan : InScan) (rows : RowWork) → RowReady limits bytes w scan rows → rows.waiting ≡ []
-    → GoesByRow limits bytes (file_with w scan w.taken) rows
+pub ready_goes : (limits : Limits) (bytes : List ℕ) (w : FileState) (scan : InScan) (rows : RowWork) → RowReady limits bytes w scan rows → rows.waiting ≡ []
+    → GoesByRow limits bytes (file_with w rows scan w.taken) rows
 ready_goes limits bytes w scan rows r none = record {
   stands = record {
     whole = r.whole;
     row = r.row;
-    at = inl (record { items = r.items; contents = r.contents; scan = scan; inside = refl; coded = r.coded; held = held_rest limits r.items r.contents bytes w scan scan.gate scan.gate refl r.held; at = r.at });
+    at = inl (record { items = r.items; contents = r.contents; scan = scan; inside = refl; coded = r.coded; held = held_as w (window.Row rows) (Some scan) refl r.held; of = r.of; all = r.all; at = r.at });
   };
   none = none;
   turned = λ s e some. r.turned (subst (λ (q : InScan). 1 ≤ scan_left q) (sym (some_once scan s e)) some);
@@ -393,14 +388,14 @@ ready_goes limits bytes w scan rows r none = record {
 
 -- THE BITS that waited
 
-module _ (limits : Limits) (bytes : List ℕ) (w : FileWork) (scan : InScan) (rows : RowWork) (r : RowReady limits bytes w scan rows)
+module _ (limits : Limits) (bytes : List ℕ) (w : FileState) (scan : InScan) (rows : RowWork) (r : RowReady limits bytes w scan rows)
     (some : 1 ≤ length rows.waiting) where
   -- the data, the last byte of which has bits that wait
   half : HalfData limits r.items r.contents bytes rows.waiting scan r.whole
   half = half_of limits r.items r.contents bytes rows.waiting scan r.whole some r.coded
 
   pub ready_half : IsHalfRow scan rows
-  ready_half = half_row limits r.items r.contents bytes scan r.whole rows half (r.held).of r.at r.row r.turned
+  ready_half = half_row limits r.items r.contents bytes scan r.whole rows half r.of r.at r.row r.turned
 
   -- their result
   pub rest_counts : (new : InScan) (after : RowWork) (given : Result Bool Fault) → PassesRest scan rows given new after
@@ -409,12 +404,12 @@ module _ (limits : Limits) (bytes : List ℕ) (w : FileWork) (scan : InScan) (ro
 
   pub rest_goes : {over : Bool} (new : InScan) (after : RowWork) (given : Result Bool Fault) (result : Step) → TakesRestInRow scan rows given new after
       → given ≡ Ok over → PassesRest scan rows given new after → new.gate ≡ scan.gate → result ≡ cond (completes_row rows.left after.left) step.Row step.More
-      → AfterRows limits bytes result (file_with w new w.taken) after
+      → AfterRows limits bytes result (file_with w after new w.taken) after
   rest_goes new after given result took is passes gate came =
       let t = took limits r.items r.contents bytes r.whole r.row half in
       let coded = subst (λ (a : Result Bool Fault). AfterBytes limits r.items r.contents bytes a after.waiting new t.0) is t.2 in
-      subst (λ (a : Step). AfterRows limits bytes a (file_with w new w.taken) after) (sym came)
-      (data_goes limits r.items r.contents bytes (file_with w new w.taken) scan new t.0 rows after (completes_row rows.left after.left) refl coded (held_rest limits r.items r.contents bytes w new scan.gate new.gate gate r.held) r.at t.1 (rest_counts new after given passes) r.turned)
+      subst (λ (a : Step). AfterRows limits bytes a (file_with w after new w.taken) after) (sym came)
+      (data_goes limits r.items r.contents bytes (file_with w after new w.taken) scan new t.0 rows after (completes_row rows.left after.left) refl coded (held_as w (window.Row after) (Some new) gate r.held) r.of r.all r.at t.1 (rest_counts new after given passes) r.turned)
 
   pub rest_stops : (new : InScan) (after : RowWork) (given : Result Bool Fault) (fault : Fault) → TakesRestInRow scan rows given new after
       → given ≡ Err fault → IsStop limits bytes (record { fault = fault; at = w.taken })

@@ -1,5 +1,5 @@
 -- A file that is read MCU row by MCU row, and a piece of it.
-use Rattle.std.proofs.Common.{◌≡◌, ◌⊎◌, ℕ, ◌+◌, ◌-◌, ◌<◌, ◌≤◌, true, false, List, [], ◌∷◌, ◌++◌, length, take, drop, get_or, refl, sym, ap, ◌∙◌, subst, arith, inl, inr, Some, None, Option, is_some, append-nil, length-append, length-drop, length-take-le, take_all, Err}
+use Rattle.std.proofs.Common.{◌≡◌, ◌⊎◌, ℕ, ◌+◌, ◌-◌, ◌<◌, ◌≤◌, true, List, [], ◌∷◌, ◌++◌, length, take, drop, get_or, refl, sym, ap, ◌∙◌, subst, arith, inl, inr, Some, None, Option, is_some, append-nil, length-append, length-drop, length-take-le, take_all, Err, Result}
 use Rattle.jpg_spec.specs.Markers.{Segment, has_scan}
 use Rattle.jpg_spec.specs.RowsParsed.{BeginsScanOfAll}
 use Rattle.jpg_spec.specs.declared.fault.FaultAt.{FaultAt}
@@ -8,17 +8,17 @@ use Rattle.jpg_spec.specs.declared.frame.Copying.TheVariants as copying
 use Rattle.jpg_spec.specs.declared.frame.Limits.{Limits}
 use Rattle.jpg_spec.proofs.Basics.Common.{clash, some_once, joined, whole_front}
 use Rattle.jpg_base.specs.declared.stop.Stop.TheVariants as stop
-use Rattle.jpg_file.specs.Read.File.{IsStop, RepresentsFile, keeping_of, limits_of, AfterFileByte, HasCompleteHeader, KeepsBytes, MakesPicture, TakesFileHead, TakesSome, NeedsNoMemory}
+use Rattle.jpg_file.specs.Read.File.{IsStop, RepresentsFile, keeping_of, limits_of, AfterFileByte, HasCompleteHeader, KeepsBytes, MakesPicture, TakesFileHead, TakesSome, NeedsNoMemory, settings_of}
 use Rattle.jpg_file.specs.Read.FirstHeader.{IsFirstHeaderOf, HasHead}
-use Rattle.jpg_file.specs.Read.ReadFile.{AfterPiece, GivenBefore, KnowsAfter, TakesBytes, TakesPiece, EndsBetweenItems, KeepsHeadAt, HasLastByte, KeepsWork, RowsGo, RowsGive, RowsOpen, TakesFirstHead, TakesOne}
-use Rattle.jpg_file.specs.Read.Strips.{FaultsResumed, RowsFault, LacksRow, RowsSoFar, KnowsRows, RowsKnown, HasNoRows, NoRowsIn, NoneAfter, AfterStrip, CountsStrip, GoesOnRest, SparesRows, RepresentsRows, StopsRows, StripGoes, StripRun, RepresentsStrip, TakesResumed, TakesRest, FindsNone, AfterScanBegins, CountsRowsOfScan, GoesByRow, RowsRun}
+use Rattle.jpg_file.specs.Read.ReadFile.{AfterPiece, GivenBefore, KnowsAfter, TakesBytes, TakesPiece, EndsBetweenItems, HasLastByte, KeepsWork, RowsGo, RowsGive, RowsOpen, TakesFirstHead, TakesOne, TakesFirstItem}
+use Rattle.jpg_file.specs.Read.Strips.{FaultsResumed, RowsFault, LacksRow, RowsSoFar, KnowsRows, RowsKnown, HasNoRows, NoRowsIn, NoneAfter, AfterStrip, CountsStrip, SparesRows, RepresentsRows, StopsRows, StripGoes, StripRun, RepresentsStrip, Resumed, TakesRest, FindsNone, AfterScanBegins, CountsRowsOfScan, GoesByRow, RowsRun, seen_of, PassesLater}
 use Rattle.jpg_file.specs.Read.InData.{unfinished}
 use Rattle.jpg_file.specs.Read.Step.{IfStops, IfWants, IsNoRow, HasMemory}
-use Rattle.jpg_file.specs.declared.read.file.FileWork.{FileWork}
+use Rattle.jpg_file.specs.declared.read.file.FileState.{FileState}
 use Rattle.jpg_file.specs.declared.read.first_header.Head.{Head}
 use Rattle.jpg_file.specs.declared.read.rows.RowWork.{RowWork}
 use Rattle.jpg_file.specs.declared.read.strip_head.StripHead.{StripHead}
-use Rattle.jpg_file.specs.declared.read.strip_work.StripWork.{StripWork}
+use Rattle.jpg_file.specs.Read.Strips.{FileSeen}
 use Rattle.jpg_file.specs.declared.read.step.Step.{Step}
 use Rattle.jpg_file.specs.declared.read.step.Step.TheVariants as step
 use Rattle.jpg_file.proofs.ByRow.RowsGiven.{goes_completes, begun_on}
@@ -26,21 +26,26 @@ use Rattle.jpg_file.proofs.Files.FileSteps.{between_of, head_is, counted, front_
 use Rattle.jpg_file.proofs.Files.Leaving.{ends_between}
 use Rattle.jpg_file.proofs.Headers.InForce.{has_longer}
 use Rattle.jpg_file.proofs.ByRow.StripBegin.{no_rows, none_after, none_begun, none_found, none_passed, none_plain, none_seen}
-use Rattle.jpg_file.proofs.ByRow.StripBytes.{open_head, open_limits, strip_limits, strip_whole, strip_passed}
+use Rattle.jpg_file.proofs.ByRow.StripBytes.{open_head, open_limits, strip_limits, strip_read, strip_passed}
 use Rattle.jpg_base.specs.declared.stop.Stop.{Stop}
+use Rattle.jpg_markers.specs.declared.segments.SegStep.{SegStep}
 use Rattle.jpg_spec.specs.Items.{segments_of}
 use Rattle.jpg_file.specs.Read.Passing.{PassesFront}
 use Rattle.jpg_file.proofs.Scans.ScanBytes.{none_some}
+use Rattle.jpg_file.specs.Read.Window.{rows_in}
+use Rattle.jpg_file.specs.declared.read.scan.InScan.{InScan}
+use Rattle.jpg_file.specs.declared.read.window.Window.{Window}
+use Rattle.jpg_file.specs.declared.read.window.Window.TheVariants as window
 
-goes_on : (limits : Limits) (bytes : List ℕ) (rows : Option RowWork) (w : FileWork) → AfterStrip limits bytes step.More rows w → StripGoes limits bytes rows w
+goes_on : (limits : Limits) (bytes : List ℕ) (rows : Option RowWork) (w : FileState) → AfterStrip limits bytes step.More rows w → StripGoes limits bytes rows w
 goes_on limits bytes None w a = a
 goes_on limits bytes (Some rows) w a = a
 
-given_some : (limits : Limits) (bytes : List ℕ) (rows : Option RowWork) (w : FileWork) → AfterStrip limits bytes step.Row rows w → is_some rows ≡ true
+given_some : (limits : Limits) (bytes : List ℕ) (rows : Option RowWork) (w : FileState) → AfterStrip limits bytes step.Row rows w → is_some rows ≡ true
 given_some limits bytes None w a = absurd a
 given_some limits bytes (Some rows) w a = refl
 
-stop_shown : (limits : Limits) (bytes : List ℕ) (rows : Option RowWork) (w : FileWork) (f : FaultAt) → AfterStrip limits bytes (step.Ended (stop.Fault f)) rows w → IsStop limits bytes f
+stop_shown : (limits : Limits) (bytes : List ℕ) (rows : Option RowWork) (w : FileState) (f : FaultAt) → AfterStrip limits bytes (step.Ended (stop.Fault f)) rows w → IsStop limits bytes f
 stop_shown limits bytes None w f a = a
 stop_shown limits bytes (Some rows) w f a = a
 
@@ -55,25 +60,25 @@ some_stays answer (Some rows) (Some after) k some = refl
 
 -- WHAT IS KEPT
 
-keeps_same : (w : StripWork) → KeepsWork w w
+keeps_same : (w : FileSeen) → KeepsWork w w
 keeps_same w = record { by_row = refl; plain = λ e p. e; some = λ e. e; strip = λ e. refl; keeping = refl; sparing = λ e k. k }
 
-keeps_then : (a b c : StripWork) → KeepsWork a b → KeepsWork b c → KeepsWork a c
+keeps_then : (a b c : FileSeen) → KeepsWork a b → KeepsWork b c → KeepsWork a c
 keeps_then a b c k l = record {
   by_row = l.by_row ∙ k.by_row;
   plain = λ e p. l.plain (k.plain e p) (k.by_row ∙ p);
   some = λ e. l.some (k.some e);
   strip = λ e. l.strip (k.some e) ∙ k.strip e;
   keeping = l.keeping ∙ k.keeping;
-  sparing = λ e s. l.sparing (k.keeping ∙ e) (k.sparing e s);
+  sparing = λ e s. l.sparing (ap (λ s. s.0) k.keeping ∙ e) (k.sparing e s);
 }
 
 -- with some more bytes
-keeps_some : {run : List ℕ} {n : ℕ} {answer : Step} (work new : StripWork) → TakesBytes work run n answer new → KeepsWork work new
+keeps_some : {run : List ℕ} {n : ℕ} {answer : Step} (work new : FileSeen) → TakesBytes work run n answer new → KeepsWork work new
 keeps_some {answer = answer} work new t = record { by_row = t.by_row; plain = λ none. (t.fresh none).plain; some = some_stays answer work.rows new.rows t.rows; strip = λ some. (t.current some).strip; keeping = t.keeping; sparing = t.sparing }
 
 -- if there is no current MCU row, there was none
-pub none_first : {old new : StripWork} → KeepsWork old new → new.rows ≡ None → old.rows ≡ None
+pub none_first : {old new : FileSeen} → KeepsWork old new → new.rows ≡ None → old.rows ≡ None
 none_first {old = old} {new = new} k none = by (none_or_some old.rows)
   where
     by : (old.rows ≡ None) ⊎ (is_some old.rows ≡ true) → old.rows ≡ None
@@ -81,7 +86,7 @@ none_first {old = old} {new = new} k none = by (none_or_some old.rows)
     by (inr e) = absurd (clash (is_some new.rows) (k.some e) (ap is_some none))
 
 -- there is memory
-wants_none : {run : List ℕ} {n : ℕ} {old work new : StripWork} (answer : Step) → KeepsWork old work → TakesBytes work run n answer new → keeping_of old.file ≡ copying.None → SparesRows old.rows old.file → IfWants answer (new.rows ≡ None)
+wants_none : {run : List ℕ} {n : ℕ} {old work new : FileSeen} (answer : Step) → KeepsWork old work → TakesBytes work run n answer new → keeping_of old.file ≡ copying.None → SparesRows old.rows old.file → IfWants answer (new.rows ≡ None)
 wants_none step.More k t none spares = tt
 wants_none step.Row k t none spares = tt
 wants_none step.Whole k t none spares = tt
@@ -98,7 +103,7 @@ known_with {limits = limits} {bytes = bytes} more n rows after counts k =
     let all = k.count in
     record { before = k.before; contents = k.contents; begins = begun_on limits bytes more k.before k.contents k.begins; told = k.told; count = omega (arith, counts, all) }
 
-module _ (limits : Limits) (bytes : List ℕ) (m : ℕ) (new : StripWork) (more : List ℕ) where
+module _ (limits : Limits) (bytes : List ℕ) (m : ℕ) (new : FileSeen) (more : List ℕ) where
   -- if there was a current one
   known_on : (answer : Step) (rows : RowWork) (o : Option RowWork) → CountsStrip answer (Some rows) o → RowsKnown limits bytes m rows new.strip → ((f : FaultAt) → answer ≡ step.Ended (stop.Fault f) → RowsFault limits (bytes ++ more) m new o)
       → KnowsAfter limits (bytes ++ more) m answer new o
@@ -118,7 +123,7 @@ module _ (limits : Limits) (bytes : List ℕ) (m : ℕ) (new : StripWork) (more 
   none_known (step.Ended (stop.Fault f)) o never k fault = fault f refl
   none_known (step.Ended stop.NoMemory) o never k fault = tt
 
-known_some : {run : List ℕ} {n : ℕ} {answer : Step} (limits : Limits) (bytes : List ℕ) (m : ℕ) (work new : StripWork) → StripGoes limits bytes work.rows work.file → (work.rows ≡ None → m ≡ 0) → KnowsRows limits bytes m work.rows work.strip
+known_some : {run : List ℕ} {n : ℕ} {answer : Step} (limits : Limits) (bytes : List ℕ) (m : ℕ) (work new : FileSeen) → StripGoes limits bytes work.rows work.file → (work.rows ≡ None → m ≡ 0) → KnowsRows limits bytes m work.rows work.strip
     → TakesBytes work run n answer new → ((f : FaultAt) → answer ≡ step.Ended (stop.Fault f) → RowsFault limits (bytes ++ take n run) m new new.rows) → KnowsAfter limits (bytes ++ take n run) m answer new new.rows
 known_some {run = run} {n = n} {answer = answer} limits bytes m work new go zero k t fault = by work.rows refl k go t.rows
   where
@@ -134,7 +139,7 @@ some_after : (limits : Limits) (bytes : List ℕ) (answer : Step) (rows : RowWor
 some_after limits bytes (step.Ended stop.NoMemory) rows = tt
 some_after limits bytes other rows = tt
 
-none_still : {run : List ℕ} {n : ℕ} {answer : Step} (limits : Limits) (bytes : List ℕ) (work new : StripWork) → StripGoes limits bytes work.rows work.file → NoRowsIn limits bytes work.rows → work.by_row ≡ true → TakesBytes work run n answer new → NoneAfter limits (bytes ++ take n run) answer new.rows
+none_still : {run : List ℕ} {n : ℕ} {answer : Step} (limits : Limits) (bytes : List ℕ) (work new : FileSeen) → StripGoes limits bytes work.rows work.file → NoRowsIn limits bytes work.rows → work.by_row ≡ true → TakesBytes work run n answer new → NoneAfter limits (bytes ++ take n run) answer new.rows
 none_still {run = run} {n = n} {answer = answer} limits bytes work new go none row t = by work.rows refl none go t.rows
   where
     later : (rows : RowWork) (o : Option RowWork) → CountsStrip answer (Some rows) o → NoneAfter limits (bytes ++ take n run) answer o
@@ -156,11 +161,11 @@ head_later limits bytes more before contents None b none = absurd (no_rows limit
 head_later limits bytes more before contents (Some h) b k = has_longer limits bytes more (bytes ++ more) before (Some h) refl k
 
 -- it is the first one of the bytes where more are taken
-go_head : (limits : Limits) (bytes : List ℕ) (rows : Option RowWork) (w : FileWork) → StripGoes limits bytes rows w → IsFirstHeaderOf limits bytes w.head
-go_head limits bytes rows w go = (let v = strip_whole limits bytes rows w go in subst (λ o. IsFirstHeaderOf limits bytes o) v.head (head_is limits bytes v.file v.stands))
+go_head : (limits : Limits) (bytes : List ℕ) (rows : Option RowWork) (w : FileState) → StripGoes limits bytes rows w → IsFirstHeaderOf limits bytes w.head
+go_head limits bytes rows w go = (let v = strip_read limits bytes rows w go in head_is limits bytes (record w { window = v.0 }) v.1)
 
 -- AT A FAULT after further bytes
-fault_known : (limits : Limits) (bytes more : List ℕ) (m : ℕ) (work new : StripWork) → KeepsWork work new → KnowsRows limits bytes m work.rows work.strip → (work.rows ≡ None → new.rows ≡ None)
+fault_known : (limits : Limits) (bytes more : List ℕ) (m : ℕ) (work new : FileSeen) → KeepsWork work new → KnowsRows limits bytes m work.rows work.strip → (work.rows ≡ None → new.rows ≡ None)
     → (is_some work.rows ≡ true → IsFirstHeaderOf limits bytes new.file.head) → ((mid : RowWork) → work.rows ≡ Some mid → RowsSoFar limits (bytes ++ more) mid) → RowsFault limits (bytes ++ more) m new new.rows
 fault_known limits bytes more m work new keeps k none head at = by work.rows refl k
   where
@@ -175,7 +180,7 @@ fault_known limits bytes more m work new keeps k none head at = by work.rows ref
         began mid new.rows (keeps.some some) (subst (λ (s : Option StripHead). RowsKnown limits bytes m mid s) (sym (keeps.strip some)) k) (head some) (at mid is)
 
 -- SOME BYTES of a piece: the state before the last of them, and the result of that one
-run_in : {limits : Limits} {bytes piece : List ℕ} {done n : ℕ} {answer : Step} {old rows : Option RowWork} {new : FileWork} → done ≤ length piece → StripRun limits (bytes ++ take done piece) (drop done piece) n answer old rows new
+run_in : {limits : Limits} {bytes piece : List ℕ} {done n : ℕ} {answer : Step} {old rows : Option RowWork} {new : FileState} → done ≤ length piece → StripRun limits (bytes ++ take done piece) (drop done piece) n answer old rows new
     → StripRun limits bytes piece (done + n) answer old rows new
 run_in {limits = limits} {bytes = bytes} {piece = piece} {done = done} {n = n} {answer = answer} {rows = rows} {new = new} few r = record {
   mid = r.mid;
@@ -200,7 +205,7 @@ run_in {limits = limits} {bytes = bytes} {piece = piece} {done = done} {n = n} {
     next : done + (r.early + 1) ≡ done + r.early + 1
     next = omega arith
 
-module _ {limits : Limits} {bytes piece : List ℕ} {used : ℕ} {answer : Step} {old rows : Option RowWork} {new : FileWork} (r : StripRun limits bytes piece used answer old rows new) where
+module _ {limits : Limits} {bytes piece : List ℕ} {used : ℕ} {answer : Step} {old rows : Option RowWork} {new : FileState} (r : StripRun limits bytes piece used answer old rows new) where
   run_is : bytes ++ take used piece ≡ (bytes ++ take r.early piece) ++ get_or piece r.early 0 ∷ []
   run_is = ap (λ m. bytes ++ take m piece) r.count ∙ one_more bytes piece r.early r.within
 
@@ -215,7 +220,7 @@ module _ {limits : Limits} {bytes piece : List ℕ} {used : ℕ} {answer : Step}
       record { front = bytes ++ take r.early piece; byte = get_or piece r.early 0; cut = run_is; stands = stands_file limits (bytes ++ take r.early piece) r.mid r.before; short = omega (arith, c, room) }
 
 -- its answer, by what the last of them needs
-run_answered : {limits : Limits} {bytes piece : List ℕ} {used : ℕ} {old rows : Option RowWork} {new : FileWork} (answer : Step) → (old ≡ None → IsNoRow answer) → CountsStrip answer old rows → (rows ≡ None → old ≡ None)
+run_answered : {limits : Limits} {bytes piece : List ℕ} {used : ℕ} {old rows : Option RowWork} {new : FileState} (answer : Step) → (old ≡ None → IsNoRow answer) → CountsStrip answer old rows → (rows ≡ None → old ≡ None)
     → StripRun limits bytes piece used answer old rows new → AfterPiece limits bytes piece used answer rows new
 run_answered {limits = limits} {bytes = bytes} {piece = piece} {used = used} {rows = rows} {new = new} step.More never counts none r =
     record { goes = goes_on limits (bytes ++ take used piece) rows new (run_came r); last = λ some. run_byte r }
@@ -263,7 +268,7 @@ run_answered {limits = limits} {bytes = bytes} {piece = piece} {new = new} (step
     )
 
 -- THE FIRST BYTES of a piece, after which it goes on
-module _ {limits : Limits} {piece : List ℕ} {done : ℕ} {old work : StripWork} (s : TakesPiece limits old piece done step.More work) where
+module _ {limits : Limits} {piece : List ℕ} {done : ℕ} {old work : FileSeen} (s : TakesPiece limits old piece done step.More work) where
   pub work_limits : ((bytes : List ℕ) × RowsOpen limits bytes old.rows old.file) → limits_of work.file ≡ limits
   work_limits o = strip_limits limits (o.0 ++ take done piece) work.rows work.file (s.after o.0 o.1).goes
 
@@ -271,21 +276,20 @@ module _ {limits : Limits} {piece : List ℕ} {done : ℕ} {old work : StripWork
   pub work_taken : (bytes : List ℕ) → RowsOpen limits bytes old.rows old.file → (work.file.taken ≡ length bytes + done) × (length bytes + done ≤ limits.input)
   work_taken bytes h =
       let front = bytes ++ take done piece in
-      let v = strip_whole limits front work.rows work.file (s.after bytes h).goes in
+      let v = strip_read limits front work.rows work.file (s.after bytes h).goes in
       let few = s.few in
-      let t = v.taken in
+      let file : FileState = record work.file { window = v.0 } in
       let size = length-append bytes (take done piece) in
       let long = length-take-le done piece few in
-      (omega (arith, t, counted limits front v.file v.stands, size, long), omega (arith, within limits front v.file v.stands, size, long))
+      (omega (arith, counted limits front file v.1, size, long), omega (arith, within limits front file v.1, size, long))
 
   -- at the most bytes that may be taken
   pub piece_full : limits.input ≤ work.file.taken → TakesPiece limits old piece done (step.Ended (stop.Fault (record { fault = InputTooLong; at = limits.input }))) work
   piece_full many = record {
     few = s.few;
-    after = λ bytes h. (let v = strip_whole _ _ _ _ (s.after bytes h).goes in
-        let t = v.taken in
-        let a = piece_long limits bytes piece done v.file (omega (arith, many, t)) v.stands in
-        (a.0, (let size = work_taken bytes h in omega (arith, many, size.0, size.1)), subst (λ o. KeepsHeadAt limits (bytes ++ piece) (record { fault = InputTooLong; at = limits.input }) o) v.head a.1));
+    after = λ bytes h. (let v = strip_read _ _ _ _ (s.after bytes h).goes in
+        let a = piece_long limits bytes piece done (record work.file { window = v.0 }) many v.1 in
+        (a.0, (let size = work_taken bytes h in omega (arith, many, size.0, size.1)), a.1));
     keeps = s.keeps;
     memory = λ none spares. tt;
     known = λ bytes m g.
@@ -298,7 +302,7 @@ module _ {limits : Limits} {piece : List ℕ} {done : ℕ} {old work : StripWork
   }
 
   -- with some more bytes
-  pub after_some : {n : ℕ} {new : StripWork} (answer : Step) → ((bytes : List ℕ) × RowsOpen limits bytes old.rows old.file) → TakesBytes work (take (length piece - done) (drop done piece)) n answer new → TakesPiece limits old piece (done + n) answer new
+  pub after_some : {n : ℕ} {new : FileSeen} (answer : Step) → ((bytes : List ℕ) × RowsOpen limits bytes old.rows old.file) → TakesBytes work (take (length piece - done) (drop done piece)) n answer new → TakesPiece limits old piece (done + n) answer new
   after_some {n = n} {new = new} answer o taken = record {
     few = (let r = run o.0 o.1 in let c = r.count in let w = r.within in omega (arith, c, w));
     after = λ bytes h. run_answered answer (λ none. (t.fresh none).no) t.rows (none_first kept) (run bytes h);
@@ -337,25 +341,12 @@ module _ {limits : Limits} {piece : List ℕ} {done : ℕ} {old work : StripWork
           (λ mid has. ((part bytes g.stands).current mid has).1 f is)
 
 -- THE BITS that waited: what they leave, and their result
-pub record Resumed (old : StripWork) (answer : Step) (new : StripWork) : Type 0 where
-  pub after : TakesResumed old answer new
-  pub goes : GoesOnRest answer
-  pub plain : is_some old.rows ≡ false → (answer ≡ step.More) × (new ≡ old)
-  pub stays : is_some new.rows ≡ is_some old.rows
-  pub rows : CountsStrip answer old.rows new.rows
-  pub memory : HasMemory answer
-  pub strip : new.strip ≡ old.strip
-  pub by_row : new.by_row ≡ old.by_row
-  pub sparing : SparesRows old.rows old.file → SparesRows new.rows new.file
-  pub head : new.file.head ≡ old.file.head
-  pub keeping : keeping_of new.file ≡ keeping_of old.file
-  pub faults : FaultsResumed old answer
 
 none_stays : (a b : Option RowWork) → is_some b ≡ is_some a → a ≡ None → b ≡ None
 none_stays a None e none = refl
 none_stays a (Some rows) e none = absurd (clash (is_some a) (sym e) (ap is_some none))
 
-module _ {answer : Step} {old new : StripWork} (r : Resumed old answer new) where
+module _ {answer : Step} {old new : FileSeen} (r : Resumed old answer new) where
   pub resumed : (limits : Limits) (bytes : List ℕ) → RowsOpen limits bytes old.rows old.file → AfterStrip limits bytes answer new.rows new.file
   resumed limits bytes h =
       subst (λ (l : Limits). RepresentsStrip l bytes old.rows old.file → AfterStrip l bytes answer new.rows new.file) (open_limits limits bytes old.rows old.file h.stands) (r.after bytes) h.stands
@@ -364,7 +355,7 @@ module _ {answer : Step} {old new : StripWork} (r : Resumed old answer new) wher
   resumed_keeps = record { by_row = r.by_row; plain = λ e p. none_stays old.rows new.rows r.stays e; some = λ e. r.stays ∙ e; strip = λ e. r.strip; keeping = r.keeping; sparing = λ e s. r.sparing s }
 
 -- THEIR RESULT, as that of no bytes of a piece
-pub resumed_piece : (limits : Limits) (piece : List ℕ) (answer : Step) (old new : StripWork) → Resumed old answer new → TakesPiece limits old piece 0 answer new
+pub resumed_piece : (limits : Limits) (piece : List ℕ) (answer : Step) (old new : FileSeen) → Resumed old answer new → TakesPiece limits old piece 0 answer new
 resumed_piece limits piece answer old new r = record {
   few = omega arith;
   after = λ bytes h. after bytes h answer r;
@@ -389,7 +380,7 @@ resumed_piece limits piece answer old new r = record {
     known bytes m g None is k zero =
         let same = none_is is in
         subst (λ (a : Step). KnowsAfter limits (bytes ++ []) m a new new.rows) (sym same.0)
-        (subst (λ (w : StripWork). KnowsRows limits (bytes ++ []) m w.rows w.strip) (sym same.1) (subst (λ (o : Option RowWork). KnowsRows limits (bytes ++ []) m o old.strip) (sym is) tt))
+        (subst (λ (w : FileSeen). KnowsRows limits (bytes ++ []) m w.rows w.strip) (sym same.1) (subst (λ (o : Option RowWork). KnowsRows limits (bytes ++ []) m o old.strip) (sym is) tt))
     known bytes m g (Some rows) is k zero =
         known_on limits bytes m new [] answer rows new.rows (subst (λ (o : Option RowWork). CountsStrip answer o new.rows) is r.rows) (subst (λ (s : Option StripHead). RowsKnown limits bytes m rows s) (sym r.strip) k)
         (λ f shows. fault_known limits bytes [] m old new (resumed_keeps r) g.known (λ none. absurd (let z : (let a : Step = step.Ended (stop.Fault f) in a) ≡ step.More = sym shows ∙ (none_is none).0 in cc))
@@ -401,7 +392,7 @@ resumed_piece limits piece answer old new r = record {
     nothing bytes free None is =
         let same = none_is is in
         subst (λ (a : Step). NoneAfter limits (bytes ++ []) a new.rows) (sym same.0)
-        (subst (λ (w : StripWork). NoRowsIn limits (bytes ++ []) w.rows) (sym same.1) (subst (λ l. NoRowsIn limits l old.rows) (sym (append-nil bytes)) free))
+        (subst (λ (w : FileSeen). NoRowsIn limits (bytes ++ []) w.rows) (sym same.1) (subst (λ l. NoRowsIn limits l old.rows) (sym (append-nil bytes)) free))
     nothing bytes free (Some rows) is = by new.rows (r.stays ∙ ap is_some is)
       where
         by : (o : Option RowWork) → is_some o ≡ true → NoneAfter limits (bytes ++ []) answer o
@@ -430,7 +421,7 @@ resumed_piece limits piece answer old new r = record {
         by (inr some) = some
 
 -- THE STATE, by its current MCU row
-pub resumed_rows : (old : StripWork) (given : RowWork) (answer : Step) → old.rows ≡ Some given → (new : FileWork) (after : RowWork) → TakesRest old.file given answer new after → FaultsResumed old answer
+pub resumed_rows : (old : FileSeen) (given : RowWork) (answer : Step) → old.rows ≡ Some given → (new : FileState) (after : RowWork) → TakesRest old.file given answer new after → FaultsResumed old answer
 resumed_rows old given answer has new after took = λ rows f bytes is shows g.
     let same : rows ≡ given = some_once rows given (sym is ∙ has) in
     subst (λ (w : RowWork). RepresentsRows (limits_of old.file) bytes old.file w → RowsSoFar (limits_of old.file) bytes w) (sym same) (λ k. (took bytes k).1 f shows) g
@@ -439,11 +430,11 @@ resumed_rows old given answer has new after took = λ rows f bytes is shows g.
 -- one go.
 
 -- the result of a file that is read in one go
-plain_after : (asks : Type 0) (limits : Limits) (bytes : List ℕ) (rows : Option RowWork) (w : FileWork) (answer : Step) → rows ≡ None → AfterFileByte asks limits bytes answer w → AfterStrip limits bytes answer rows w
+plain_after : (asks : Type 0) (limits : Limits) (bytes : List ℕ) (rows : Option RowWork) (w : FileState) (answer : Step) → rows ≡ None → AfterFileByte asks limits bytes answer w → AfterStrip limits bytes answer rows w
 plain_after asks limits bytes rows w answer none a = subst (λ (r : Option RowWork). AfterStrip limits bytes answer r w) (sym none) (asked asks (Unit {0}) (λ h. tt) limits bytes answer w a)
 
 -- a scan that doesn't begin
-begin_stops : (limits : Limits) (bytes : List ℕ) (rows : Option RowWork) (w : FileWork) (e : Stop) → rows ≡ None → AfterScanBegins limits bytes (Err e) w → AfterStrip limits bytes (step.Ended e) rows w
+begin_stops : (limits : Limits) (bytes : List ℕ) (rows : Option RowWork) (w : FileState) (e : Stop) → rows ≡ None → AfterScanBegins limits bytes (Err e) w → AfterStrip limits bytes (step.Ended e) rows w
 begin_stops limits bytes rows w e none a = subst (λ (r : Option RowWork). AfterStrip limits bytes (step.Ended e) r w) (sym none) (by e a)
   where
     by : (e : Stop) → AfterScanBegins limits bytes (Err e) w → AfterFileByte (Unit {0}) limits bytes (step.Ended e) w
@@ -465,86 +456,103 @@ wants_nothing (step.Ended stop.NoMemory) holds h = absurd h
 wants_nothing other holds h = tt
 
 -- memory is asked for between items
-asks_between : (result : Step) (w mid : FileWork) (limits : Limits) (bytes : List ℕ) (new : FileWork) → IfWants result (mid.scan ≡ w.scan) → AfterFileByte (KeepsBytes w) limits bytes result new → IfWants result (mid.scan ≡ None)
+asks_between : (result : Step) (w mid : FileState) (limits : Limits) (bytes : List ℕ) (new : FileState) → IfWants result (mid.scan ≡ w.scan) → AfterFileByte (KeepsBytes w) limits bytes result new → IfWants result (mid.scan ≡ None)
 asks_between (step.Ended stop.NoMemory) w mid limits bytes new same none = same ∙ none
 asks_between other w mid limits bytes new same after = tt
 
 -- A BYTE after which there is no current row, nor was before it
-pub first_taken : (old : StripWork) (byte : ℕ) (answer : Step) (w : FileWork) → old.rows ≡ None
-    → ((bytes : List ℕ) → RepresentsFile (limits_of old.file) bytes old.file → AfterFileByte (Unit {0}) (limits_of old.file) (bytes ++ byte ∷ []) answer w) → IsNoRow answer → w.head ≡ old.file.head
-    → IfWants answer (old.file.scan ≡ None) → keeping_of w ≡ keeping_of old.file → TakesOne old byte answer (record old { file = w })
-first_taken old byte answer w none after never head asks keeping = record {
+pub first_taken : (old new : FileSeen) (byte : ℕ) (answer : Step) → old.rows ≡ None → new.rows ≡ None → new.by_row ≡ old.by_row
+    → ((bytes : List ℕ) → RepresentsFile (limits_of old.file) bytes old.file → AfterFileByte (Unit {0}) (limits_of old.file) (bytes ++ byte ∷ []) answer new.file) → IsNoRow answer → new.file.head ≡ old.file.head
+    → IfWants answer (old.file.scan ≡ None) → settings_of new.file ≡ settings_of old.file → TakesOne old byte answer new
+first_taken old new byte answer none still by_row after never head asks keeping = record {
   after = λ bytes g.
       (let k = subst (λ (o : Option RowWork). StripGoes (limits_of old.file) bytes o old.file) none g in
-      plain_after (Unit {0}) (limits_of old.file) (bytes ++ byte ∷ []) old.rows w answer none (after bytes k));
+      plain_after (Unit {0}) (limits_of old.file) (bytes ++ byte ∷ []) new.rows new.file answer still (after bytes k));
   stops = λ bytes rows is g. absurd (none_some old.rows rows is none);
-  rows = subst (λ (o : Option RowWork). CountsStrip answer o old.rows) (sym none) tt;
-  sparing = λ e s. subst (λ (o : Option RowWork). SparesRows o w) (sym none) tt;
+  rows = subst (λ (o : Option RowWork). CountsStrip answer o new.rows) (sym none) tt;
+  sparing = λ e s. subst (λ (o : Option RowWork). SparesRows o new.file) (sym still) tt;
   keeping = keeping;
-  by_row = refl;
-  head = stops answer (w.head ≡ old.file.head) head;
+  by_row = by_row;
+  head = stops answer (new.file.head ≡ old.file.head) head;
   fresh = λ e. record {
-    begins = subst (λ (o : Option RowWork). CountsRowsOfScan o w) (sym none) tt;
-    known = λ bytes k. subst (λ (o : Option RowWork). KnowsRows (limits_of old.file) (bytes ++ byte ∷ []) 0 o old.strip) (sym none) tt;
+    begins = subst (λ (o : Option RowWork). CountsRowsOfScan o new.file) (sym still) tt;
+    known = λ bytes k. subst (λ (o : Option RowWork). KnowsRows (limits_of old.file) (bytes ++ byte ∷ []) 0 o new.strip) (sym still) tt;
     no = never;
-    stops = stops answer (old.rows ≡ None) none;
-    plain = λ by. none;
-    none = λ by bytes k nothing. none_plain (Unit {0}) (limits_of old.file) bytes byte old.file w answer old.rows k head (after bytes k) nothing;
+    stops = stops answer (new.rows ≡ None) still;
+    plain = λ by. still;
+    none = λ by bytes k nothing. none_plain (Unit {0}) (limits_of old.file) bytes byte old.file new.file answer new.rows k head (after bytes k) nothing;
     asks = asks;
   };
   current = λ some. absurd (clash (is_some old.rows) some (ap is_some none));
 }
 
 -- a scan header that is taken as in a file that is read in one go
-pub head_plain : (old : StripWork) (answer : Step) (w : FileWork) → old.rows ≡ None → TakesFileHead old.file answer w → IsNoRow answer → IfStops answer (w.head ≡ old.file.head) → keeping_of w ≡ keeping_of old.file
-    → (old.by_row ≡ true → old.file.head ≡ None → FindsNone old.file None) → TakesFirstHead old answer (record old { file = w })
-head_plain old answer w none took never head keeping finds = record {
-  after = λ bytes h. plain_after (MakesPicture old.file) (limits_of old.file) bytes old.rows w answer none (took bytes h);
+pub head_plain : (old : FileSeen) (answer : Step) (w : FileState) → rows_in w.window ≡ None → w.by_row ≡ old.by_row → TakesFileHead old.file answer w → IsNoRow answer → IfStops answer (w.head ≡ old.file.head) → settings_of w ≡ settings_of old.file
+    → (old.by_row ≡ true → old.file.head ≡ None → FindsNone old.file None) → TakesFirstHead old answer (seen_of w)
+head_plain old answer w none by_row took never head keeping finds = record {
+  after = λ bytes h. plain_after (MakesPicture old.file) (limits_of old.file) bytes (rows_in w.window) w answer none (took bytes h);
   begins = subst (λ (o : Option RowWork). CountsRowsOfScan o w) (sym none) tt;
-  known = λ bytes h. subst (λ (o : Option RowWork). KnowsRows (limits_of old.file) bytes 0 o old.strip) (sym none) tt;
+  known = λ bytes h. subst (λ (o : Option RowWork). KnowsRows (limits_of old.file) bytes 0 o w.strip) (sym none) tt;
   no = never;
-  stops = stops answer (old.rows ≡ None) none;
+  stops = stops answer (rows_in w.window ≡ None) none;
   plain = λ by. none;
-  none = λ by first front byte nothing h. none_after (limits_of old.file) (front ++ byte ∷ []) answer old.rows (none_found (limits_of old.file) front byte old.file h first (finds by first) nothing);
+  none = λ by first front byte nothing h. none_after (limits_of old.file) (front ++ byte ∷ []) answer (rows_in w.window) (none_found (limits_of old.file) front byte old.file h first (finds by first) nothing);
   sparing = λ e. subst (λ (o : Option RowWork). SparesRows o w) (sym none) tt;
   head = head;
   keeping = keeping;
-  by_row = refl;
+  by_row = by_row;
 }
 
 -- a scan that doesn't begin
-pub begin_fails : (old : StripWork) (e : Stop) (w : FileWork) → old.rows ≡ None → ((bytes : List ℕ) → HasCompleteHeader (limits_of old.file) bytes old.file → AfterScanBegins (limits_of old.file) bytes (Err e) w) → w.head ≡ old.file.head → keeping_of w ≡ keeping_of old.file
-    → TakesFirstHead old (step.Ended e) (record old { file = w })
-begin_fails old e w none after head keeping = record {
-  after = λ bytes h. begin_stops (limits_of old.file) bytes old.rows w e none (after bytes h);
+pub begin_fails : (old : FileSeen) (e : Stop) (w : FileState) → rows_in w.window ≡ None → w.by_row ≡ old.by_row → ((bytes : List ℕ) → HasCompleteHeader (limits_of old.file) bytes old.file → AfterScanBegins (limits_of old.file) bytes (Err e) w) → w.head ≡ old.file.head → settings_of w ≡ settings_of old.file
+    → TakesFirstHead old (step.Ended e) (seen_of w)
+begin_fails old e w none by_row after head keeping = record {
+  after = λ bytes h. begin_stops (limits_of old.file) bytes (rows_in w.window) w e none (after bytes h);
   begins = subst (λ (o : Option RowWork). CountsRowsOfScan o w) (sym none) tt;
-  known = λ bytes h. subst (λ (o : Option RowWork). KnowsRows (limits_of old.file) bytes 0 o old.strip) (sym none) tt;
+  known = λ bytes h. subst (λ (o : Option RowWork). KnowsRows (limits_of old.file) bytes 0 o w.strip) (sym none) tt;
   no = tt;
   stops = none;
   plain = λ by. none;
-  none = λ by first front byte nothing h. none_begun (limits_of old.file) front byte w e old.rows (after (front ++ byte ∷ []) h) nothing;
+  none = λ by first front byte nothing h. none_begun (limits_of old.file) front byte w e (rows_in w.window) (after (front ++ byte ∷ []) h) nothing;
   sparing = λ e. subst (λ (o : Option RowWork). SparesRows o w) (sym none) tt;
   head = head;
   keeping = keeping;
-  by_row = refl;
+  by_row = by_row;
 }
+
+-- no current MCU row
+pub not_row : (o : Window) → ((rows : RowWork) → o ≡ window.Row rows → ⊥) → rows_in o ≡ None
+not_row window.None not = refl
+not_row (window.All coefs) not = refl
+not_row (window.Row rows) not = absurd (not rows refl)
+
+-- the result of an item that is this one
+pub first_as : {came one : Result SegStep Stop} (old new : FileSeen) (answer : Step) → came ≡ one → TakesFirstItem old one answer new → TakesFirstItem old came answer new
+first_as old new answer is k = subst (λ (s : Result SegStep Stop). TakesFirstItem old s answer new) (sym is) k
+
+pub later_as : {came one : Result SegStep Stop} {old new : FileState} {answer : Step} → came ≡ one → PassesLater old one answer new → PassesLater old came answer new
+later_as {old = old} {new = new} {answer = answer} is k = subst (λ (s : Result SegStep Stop). PassesLater old s answer new) (sym is) k
+
+-- EOI asks for no memory
+pub ends_here : (before : Option InScan) (limits : Limits) (bytes : List ℕ) (answer : Step) (w : FileState) → AfterFileByte ⊥ limits bytes answer w → AfterFileByte (before ≡ None) limits bytes answer w
+ends_here before limits bytes answer w a = asked ⊥ (before ≡ None) (λ h. absurd h) limits bytes answer w a
 
 pub stops_on : (answer : Step) (was is : Type 0) → (was → is) → IfStops answer was → IfStops answer is
 stops_on (step.Ended e) was is on h = on h
 stops_on other was is on h = tt
 
 -- inside the data of a scan there is a first scan header
-pub headed : (limits : Limits) (bytes : List ℕ) (w : FileWork) → RepresentsFile limits bytes w → is_some w.scan ≡ true → is_some w.head ≡ true
-headed limits bytes w k some = (let s = inside_of limits bytes w k some in by ((0xda, s.contents) ∷ segments_of s.items) w.head refl s.head)
+pub headed : (limits : Limits) (bytes : List ℕ) (w : FileState) → RepresentsFile limits bytes w → is_some w.scan ≡ true → is_some w.head ≡ true
+headed limits bytes w k some = (let s = inside_of limits bytes w k some in by ((0xda, s.contents) ∷ segments_of s.items) w.head refl (s.held).first_head)
   where
     by : (before : List Segment) (o : Option Head) → has_scan before ≡ true → HasHead limits bytes before o → is_some o ≡ true
     by before None scanned h = absurd (clash (has_scan before) scanned h)
     by before (Some head) scanned h = refl
 
 -- of a file that is read in one go
-some_plain : (w : FileWork) (rows : Option RowWork) (run : List ℕ) (n : ℕ) (answer : Step) (new : FileWork) → rows ≡ None → TakesSome w run n answer new → (bytes : List ℕ) → StripGoes (limits_of w) bytes rows w
-    → StripRun (limits_of w) bytes run n answer rows rows new
-some_plain w rows run n answer new none t bytes g =
+some_plain : (w : FileState) (rows now : Option RowWork) (run : List ℕ) (n : ℕ) (answer : Step) (new : FileState) → rows ≡ None → now ≡ None → TakesSome w run n answer new → (bytes : List ℕ) → StripGoes (limits_of w) bytes rows w
+    → StripRun (limits_of w) bytes run n answer rows now new
+some_plain w rows now run n answer new none still t bytes g =
     let limits = limits_of w in
     let k = subst (λ (r : Option RowWork). StripGoes limits bytes r w) none g in
     let front = bytes ++ take t.early run in
@@ -559,31 +567,31 @@ some_plain w rows run n answer new none t bytes g =
       head = t.head;
       asks = λ none. asks_between answer w t.mid limits (front ++ get_or run t.early 0 ∷ []) new t.scan (t.last limits front before refl);
       current = λ current is. absurd (clash (is_some rows) (ap is_some is) (ap is_some none));
-      last = plain_after (KeepsBytes w) limits (front ++ get_or run t.early 0 ∷ []) rows new answer none (t.last limits front before refl);
+      last = plain_after (KeepsBytes w) limits (front ++ get_or run t.early 0 ∷ []) now new answer still (t.last limits front before refl);
     }
 
-pub plain_bytes : (old : StripWork) (run : List ℕ) (n : ℕ) (answer : Step) (w : FileWork) → old.rows ≡ None → is_some old.file.head ≡ true → TakesSome old.file run n answer w → IsNoRow answer → keeping_of w ≡ keeping_of old.file
-    → TakesBytes old run n answer (record old { file = w })
-plain_bytes old run n answer w none headed t never keeping = record {
-  after = some_plain old.file old.rows run n answer w none t;
-  rows = subst (λ (o : Option RowWork). CountsStrip answer o old.rows) (sym none) tt;
-  sparing = λ e s. subst (λ (o : Option RowWork). SparesRows o w) (sym none) tt;
+pub plain_bytes : (old new : FileSeen) (run : List ℕ) (n : ℕ) (answer : Step) → old.rows ≡ None → new.rows ≡ None → new.by_row ≡ old.by_row → is_some old.file.head ≡ true → TakesSome old.file run n answer new.file → IsNoRow answer
+    → settings_of new.file ≡ settings_of old.file → TakesBytes old run n answer new
+plain_bytes old new run n answer none still by_row headed t never keeping = record {
+  after = some_plain old.file old.rows new.rows run n answer new.file none still t;
+  rows = subst (λ (o : Option RowWork). CountsStrip answer o new.rows) (sym none) tt;
+  sparing = λ e s. subst (λ (o : Option RowWork). SparesRows o new.file) (sym still) tt;
   keeping = keeping;
-  by_row = refl;
+  by_row = by_row;
   fresh = λ e. record {
-    begins = subst (λ (o : Option RowWork). CountsRowsOfScan o w) (sym none) tt;
-    known = λ bytes k. subst (λ (o : Option RowWork). KnowsRows (limits_of old.file) (bytes ++ take n run) 0 o old.strip) (sym none) tt;
+    begins = subst (λ (o : Option RowWork). CountsRowsOfScan o new.file) (sym still) tt;
+    known = λ bytes k. subst (λ (o : Option RowWork). KnowsRows (limits_of old.file) (bytes ++ take n run) 0 o new.strip) (sym still) tt;
     no = never;
-    stops = stops answer (old.rows ≡ None) none;
-    plain = λ by. none;
-    none = λ by bytes k nothing. none_after (limits_of old.file) (bytes ++ take n run) answer old.rows (none_seen (limits_of old.file) bytes (take n run) old.file k headed nothing);
+    stops = stops answer (new.rows ≡ None) still;
+    plain = λ by. still;
+    none = λ by bytes k nothing. none_after (limits_of old.file) (bytes ++ take n run) answer new.rows (none_seen (limits_of old.file) bytes (take n run) old.file k headed nothing);
     some = λ by. t;
   };
   current = λ some. absurd (clash (is_some old.rows) some (ap is_some none));
 }
 
 -- of one that is read MCU row by MCU row
-pub some_rows : (limits : Limits) (bytes run : List ℕ) (n : ℕ) (result : Step) (old : Option RowWork) (rows : RowWork) (new : FileWork) (after : RowWork) → old ≡ Some rows → RowsRun limits bytes run n result rows new after → StripRun limits bytes run n result old (Some after) new
+pub some_rows : (limits : Limits) (bytes run : List ℕ) (n : ℕ) (result : Step) (old : Option RowWork) (rows : RowWork) (new : FileState) (after : RowWork) → old ≡ Some rows → RowsRun limits bytes run n result rows new after → StripRun limits bytes run n result old (Some after) new
 some_rows limits bytes run n result old rows new after is t = record {
   mid = t.mid;
   early = t.early;
@@ -597,21 +605,17 @@ some_rows limits bytes run n result old rows new after is t = record {
   last = t.last;
 }
 
-wants_on : (answer : Step) (was is : Type 0) → (was → is) → IfWants answer was → IfWants answer is
-wants_on (step.Ended stop.NoMemory) was is on h = on h
-wants_on other was is on h = tt
-
 -- what memory is asked for is known
-asked_for : (holds : Type 0) (limits : Limits) (bytes : List ℕ) (answer : Step) (w : FileWork) → IfWants answer holds → AfterFileByte (Unit {0}) limits bytes answer w → AfterFileByte holds limits bytes answer w
+asked_for : (holds : Type 0) (limits : Limits) (bytes : List ℕ) (answer : Step) (w : FileState) → IfWants answer holds → AfterFileByte (Unit {0}) limits bytes answer w → AfterFileByte holds limits bytes answer w
 asked_for holds limits bytes (step.Ended stop.NoMemory) w h a = h
 asked_for holds limits bytes other w h a = a
 
-spares_on : (rows : Option RowWork) (w mid : FileWork) → (NeedsNoMemory w → NeedsNoMemory mid) → SparesRows rows w → SparesRows rows mid
+spares_on : (rows : Option RowWork) (w mid : FileState) → (NeedsNoMemory w → NeedsNoMemory mid) → SparesRows rows w → SparesRows rows mid
 spares_on None w mid on s = tt
 spares_on (Some rows) w mid on s = on s
 
 -- THE FIRST BYTES that cause no event, and a byte
-module _ (old new : StripWork) (mid : FileWork) (run : List ℕ) (n : ℕ) (answer : Step) (p : PassesFront old.file run n mid) (took : TakesOne (record old { file = mid }) (get_or run n 0) answer new) where
+module _ (old new : FileSeen) (mid : FileState) (run : List ℕ) (n : ℕ) (answer : Step) (p : PassesFront old.file run n mid) (took : TakesOne (record old { file = mid }) (get_or run n 0) answer new) where
   abbrev limits : Limits
   limits = limits_of old.file
 
@@ -619,10 +623,10 @@ module _ (old new : StripWork) (mid : FileWork) (run : List ℕ) (n : ℕ) (answ
   byte = get_or run n 0
 
   kept : mid.scan ≡ old.file.scan
-  kept = ap (λ (x : FileWork). x.scan) p.is
+  kept = ap (λ (x : FileState). x.scan) p.is
 
   head : mid.head ≡ old.file.head
-  head = ap (λ (x : FileWork). x.head) p.is
+  head = ap (λ (x : FileState). x.head) p.is
 
   -- the file after the first of them, in one go or not
   goes : (front : List ℕ) → StripGoes limits front old.rows old.file → StripGoes limits (front ++ take n run) old.rows mid
@@ -636,16 +640,16 @@ module _ (old new : StripWork) (mid : FileWork) (run : List ℕ) (n : ℕ) (answ
   byte_after front g =
       let all = front ++ take n run in
       let k = goes front g in
-      let whole = strip_whole limits all old.rows mid k in
+      let whole = strip_read limits all old.rows mid k in
       record {
-        mid = whole.file;
+        mid = record mid { window = whole.0 };
         early = n;
         count = refl;
         within = p.within;
-        before = whole.stands;
-        room = (let same = whole.taken in let few = p.room in omega (arith, same, few));
-        head = stops_on answer (new.file.head ≡ mid.head) (new.file.head ≡ (whole.file).head) (λ e. e ∙ sym whole.head) took.head;
-        asks = λ none. wants_on answer (mid.scan ≡ None) ((whole.file).scan ≡ None) (λ e. whole.scan ∙ e) ((took.fresh none).asks);
+        before = whole.1;
+        room = p.room;
+        head = took.head;
+        asks = λ none. (took.fresh none).asks;
         current = λ rows is.
             (let g = subst (λ (o : Option RowWork). StripGoes limits all o mid) is k in (
               goes_completes limits all mid rows g,
@@ -665,7 +669,7 @@ module _ (old new : StripWork) (mid : FileWork) (run : List ℕ) (n : ℕ) (answ
   one_byte = record {
     after = byte_after;
     rows = took.rows;
-    sparing = λ e s. took.sparing (p.keeping ∙ e) (spares_on old.rows old.file mid p.sparing s);
+    sparing = λ e s. took.sparing (ap (λ s. s.0) p.keeping ∙ e) (spares_on old.rows old.file mid p.sparing s);
     keeping = took.keeping ∙ p.keeping;
     by_row = took.by_row;
     fresh = λ none.

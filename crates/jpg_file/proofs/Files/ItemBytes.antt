@@ -27,8 +27,7 @@ use Rattle.jpg_markers.specs.Reading.{Reading, RepresentsSegments, AtPhase, IsBe
 use Rattle.jpg_file.specs.Read.SegmentState.{Holds, HoldsSegment, segments_view}
 use Rattle.jpg_file.specs.declared.read.segment_state.SegmentTaken.TheVariants as took
 use Rattle.jpg_file.specs.declared.read.items.Items.{Items}
-use Rattle.jpg_file.specs.declared.read.items.ItemStep.TheVariants.{More}
-use Rattle.jpg_file.specs.Read.Items.{IsBeside, AtPlace, BetweenItems, AfterSegment, AfterItem, BehindEnd, AddsNoScan, PassesItems}
+use Rattle.jpg_file.specs.Read.Items.{IsBeside, AtPlace, BetweenItems, AfterSegment, AfterItem, AddsNoScan, PassesItems, limits_in}
 use Rattle.std.proofs.lemmas.Bool.{cases_lt}
 use Rattle.jpg_spec.specs.Faults.{number_of}
 use Rattle.jpg_spec.proofs.Files.FileLaws.{shown_once}
@@ -194,23 +193,23 @@ part_after limits bytes sent items blocks r tail p same at a = by p a
 module _ (limits : Limits) (bytes : List ℕ) (items : List Item) (blocks : Blocks) (w : Items) (k : BetweenItems limits bytes items blocks w) where
   -- bytes that only continue
   pub passes_on : (more : List ℕ) (new : Items) → RepresentsSegments (k.sent ++ more) (segments_of items) (reading_of new.segments)
-      → (reading_of new.segments).limits ≡ (reading_of w.segments).limits → new.limits ≡ w.limits → segments_view new.held ≡ segments_view w.held
+      → (reading_of new.segments).limits ≡ (reading_of w.segments).limits → segments_view new.held ≡ segments_view w.held
       → BetweenItems limits (bytes ++ more) items blocks new
-  passes_on more new stands e f same = record {
+  passes_on more new stands e same = record {
     sent = k.sent ++ more;
     stands = stands;
-    at = place_more limits bytes k.sent more items blocks (reading_of new.segments) (e ∙ k.bounded.0) stands k.at;
-    bounded = (e ∙ k.bounded.0, f ∙ k.bounded.1);
+    at = place_more limits bytes k.sent more items blocks (reading_of new.segments) (e ∙ k.bounded) stands k.at;
+    bounded = e ∙ k.bounded;
     holds = subst (λ h. Holds limits h (segments_of items)) (sym same) k.holds;
   }
 
   -- a complete segment at once
   whole_at : (more : List ℕ) (code : ℕ) (contents : List ℕ) (new : Items) → (reading_of w.segments).phase ≡ phase.Between
-      → (reading_of new.segments).phase ≡ phase.Between → (reading_of new.segments).limits ≡ limits → new.limits ≡ limits
+      → (reading_of new.segments).phase ≡ phase.Between → (reading_of new.segments).limits ≡ limits
       → RepresentsSegments (k.sent ++ more) ((code, contents) ∷ segments_of items) (reading_of new.segments) → (code ≡ 0xda → ⊥)
       → contents_rule limits (segments_of items) code contents ≡ None → Holds limits (segments_view new.held) ((code, contents) ∷ segments_of items)
-      → AfterItem limits (bytes ++ more) items blocks More new
-  whole_at more code contents new p q e f stands other rule holds = by k.at
+      → AfterItem limits (bytes ++ more) items blocks (Ok step.More) new
+  whole_at more code contents new p q e stands other rule holds = by k.at
     where
       r : Reading
       r = reading_of new.segments
@@ -218,7 +217,7 @@ module _ (limits : Limits) (bytes : List ℕ) (items : List Item) (blocks : Bloc
       last : LastSegment limits (k.sent ++ more) (segments_of items) code contents
       last = last_segment limits (k.sent ++ more) (segments_of items) code contents r e q stands
 
-      by : AtPlace limits bytes k.sent items blocks → AfterItem limits (bytes ++ more) items blocks More new
+      by : AtPlace limits bytes k.sent items blocks → AfterItem limits (bytes ++ more) items blocks (Ok step.More) new
       by (inl s) = absurd (past_start limits k.sent (segments_of items) (reading_of w.segments) p k.stands s.short (ap segments_of s.no_items))
       by (inr (tail, at)) =
           let beside = beside_more limits (kept_rule limits) k.sent bytes items tail more at.beside in
@@ -236,7 +235,7 @@ module _ (limits : Limits) (bytes : List ℕ) (items : List Item) (blocks : Bloc
                   leads = (last.allowed, rule, at.leads);
                 },
               );
-              bounded = (e, f);
+              bounded = e;
               holds = holds;
             },
           )
@@ -252,7 +251,7 @@ module _ (limits : Limits) (bytes : List ℕ) (items : List Item) (blocks : Bloc
       by (inl s) = subst (λ z. UnfinishedFile limits z) (sym s.same) (start k.sent s.short)
       by (inr (tail, at)) =
           part_stands limits (kept_rule limits) k.sent bytes items tail at.beside
-          (part_after limits bytes k.sent items blocks (reading_of w.segments) tail (reading_of w.segments).phase k.bounded.0 at (k.stands).1)
+          (part_after limits bytes k.sent items blocks (reading_of w.segments) tail (reading_of w.segments).phase k.bounded at (k.stands).1)
 
 -- the reader of segments didn't stop
 pub between_going : (limits : Limits) (bytes : List ℕ) (items : List Item) (blocks : Blocks) (w : Items) → BetweenItems limits bytes items blocks w → (reading_of w.segments).stop ≡ None
@@ -260,20 +259,20 @@ between_going limits bytes items blocks w k = k.stands.0
 
 -- FURTHER BYTES, by the result of the reader of segments
 abbrev pub Fed : Limits → List ℕ → List Item → Blocks → Result SegStep Stop → Items → Type 0
-Fed limits bytes items blocks (Ok step.More) w = AfterItem limits bytes items blocks More w
-Fed limits bytes items blocks (Ok step.Start) w = AfterItem limits bytes items blocks More w
-Fed limits bytes items blocks (Ok step.Frame) w = AfterItem limits bytes items blocks More w
-Fed limits bytes items blocks (Ok step.Eoi) w = BehindEnd limits bytes items blocks w
 Fed limits bytes items blocks (Ok step.Whole) w = AfterSegment limits bytes items blocks w
-Fed limits bytes items blocks (Err (stop.Fault f)) w = Reveals limits f.fault bytes × (f.at ≡ (reading_of w.segments).taken)
-Fed limits bytes items blocks (Err stop.NoMemory) w = Unit {0}
+Fed limits bytes items blocks came w = AfterItem limits bytes items blocks came w
+
+-- where no segment is complete
+pub no_whole : (limits : Limits) (bytes : List ℕ) (items : List Item) (blocks : Blocks) (came : Result SegStep Stop) (w : Items) → (came ≡ Ok step.Whole → ⊥) → Fed limits bytes items blocks came w → AfterItem limits bytes items blocks came w
+no_whole limits bytes items blocks (Ok step.Whole) w not k = absurd (not refl)
+no_whole limits bytes items blocks came w not k = k
 
 module _ (limits : Limits) (bytes sent : List ℕ) (items : List Item) (blocks : Blocks) (w : Items)
-    (bounded : ((reading_of w.segments).limits ≡ limits) × (w.limits ≡ limits)) (holds : Holds limits (segments_view w.held) (segments_of items)) where
+    (bounded : (reading_of w.segments).limits ≡ limits) (holds : Holds limits (segments_view w.held) (segments_of items)) where
   abbrev r : Reading
   r = reading_of w.segments
 
-  on : RepresentsSegments sent (segments_of items) r → AtPlace limits bytes sent items blocks → AfterItem limits bytes items blocks More w
+  on : RepresentsSegments sent (segments_of items) r → AtPlace limits bytes sent items blocks → AfterItem limits bytes items blocks (Ok step.More) w
   on stands at = (items, inl refl, record { sent = sent; stands = stands; at = at; bounded = bounded; holds = holds })
 
   -- after SOI
@@ -283,11 +282,11 @@ module _ (limits : Limits) (bytes sent : List ℕ) (items : List Item) (blocks :
   fed_beside tail at (Ok step.Start) c p = on c.1 (inr (tail, at))
   fed_beside tail at (Ok step.Frame) c p = on c.1 (inr (tail, at))
   fed_beside tail at (Ok step.Eoi) c p =
-      let ends = subst (λ (l : Limits). EndsAtEoi (kept_rule l) (segments_of items) sent) bounded.0 c.1 in
+      let ends = subst (λ (l : Limits). EndsAtEoi (kept_rule l) (segments_of items) sent) bounded c.1 in
       let t = same_tail (kept_rule limits) sent (segments_of items) tail ends.0 (at.beside).between ends.1 in
       record { sent = sent; tail = tail; at = at; ended = subst (λ z. SpellsMarker 0xd9 z) (sym t) ends.2; allowed = ends.3; holds = holds }
   fed_beside tail at (Ok step.Whole) c p =
-      let last = last_segment limits sent (segments_of items) r.code r.contents r bounded.0 (p refl) c.1 in
+      let last = last_segment limits sent (segments_of items) r.code r.contents r bounded (p refl) c.1 in
       let t = same_tail (kept_rule limits) sent (segments_of items) tail last.rest (at.beside).between last.between in
       record {
         sent = sent;
@@ -303,20 +302,20 @@ module _ (limits : Limits) (bytes sent : List ℕ) (items : List Item) (blocks :
         holds = holds;
       }
   fed_beside tail at (Err (stop.Fault f)) c p =
-      (beside_fault limits bytes sent items blocks tail f.fault at (subst (λ (l : Limits). RevealsAfter (kept_rule l) (segments_of items) f.fault sent) bounded.0 c.1), c.2)
+      (beside_fault limits bytes sent items blocks tail f.fault at (subst (λ (l : Limits). RevealsAfter (kept_rule l) (segments_of items) f.fault sent) bounded c.1), c.2)
   fed_beside tail at (Err stop.NoMemory) c p = tt
 
   -- before it is complete, or with its last byte
   fed_start : bytes ≡ sent → length sent ≤ 2 → items ≡ [] → blocks ≡ no_blocks → (came : Result SegStep Stop) → Comes sent (segments_of items) came r → (came ≡ Ok step.Whole → r.phase ≡ phase.Between)
       → Fed limits bytes items blocks came w
-  fed_start same few none blank (Ok step.More) c p = on c.1 (start_at limits bytes sent items blocks r same none blank bounded.0 c.1)
-  fed_start same few none blank (Ok step.Start) c p = on c.1 (start_at limits bytes sent items blocks r same none blank bounded.0 c.1)
-  fed_start same few none blank (Ok step.Frame) c p = on c.1 (start_at limits bytes sent items blocks r same none blank bounded.0 c.1)
+  fed_start same few none blank (Ok step.More) c p = on c.1 (start_at limits bytes sent items blocks r same none blank bounded c.1)
+  fed_start same few none blank (Ok step.Start) c p = on c.1 (start_at limits bytes sent items blocks r same none blank bounded c.1)
+  fed_start same few none blank (Ok step.Frame) c p = on c.1 (start_at limits bytes sent items blocks r same none blank bounded c.1)
   fed_start same few none blank (Ok step.Eoi) c p = absurd (let z : code_fault [] 0xd9 ≡ None = subst (λ (z : List Item). code_fault (segments_of z) 0xd9 ≡ None) none c.1.3 in cc)
   fed_start same few none blank (Ok step.Whole) c p =
-      absurd (start_no_segment limits sent r.code r.contents few (subst (λ (z : List Item). LastSegment limits sent (segments_of z) r.code r.contents) none (last_segment limits sent (segments_of items) r.code r.contents r bounded.0 (p refl) c.1)))
+      absurd (start_no_segment limits sent r.code r.contents few (subst (λ (z : List Item). LastSegment limits sent (segments_of z) r.code r.contents) none (last_segment limits sent (segments_of items) r.code r.contents r bounded (p refl) c.1)))
   fed_start same few none blank (Err (stop.Fault f)) c p =
-      let shown = subst (λ (l : Limits). RevealsAfter (kept_rule l) (segments_of items) f.fault sent) bounded.0 c.1 in
+      let shown = subst (λ (l : Limits). RevealsAfter (kept_rule l) (segments_of items) f.fault sent) bounded c.1 in
       (subst (Reveals limits f.fault) (sym same) (start_fault limits sent f.fault (subst (λ (z : List Item). RevealsAfter (kept_rule limits) (segments_of z) f.fault sent) none shown)), c.2)
   fed_start same few none blank (Err stop.NoMemory) c p = tt
 
@@ -330,10 +329,10 @@ byte_comes limits bytes items blocks w k b s came answer is c whole e = subst (�
 
     by : AtPlace limits bytes k.sent items blocks → Fed limits (bytes ++ b ∷ []) items blocks came (record w { segments = s })
     by (inl t) =
-        fed_start limits (bytes ++ b ∷ []) (k.sent ++ b ∷ []) items blocks (record w { segments = s }) (e ∙ k.bounded.0, k.bounded.1) k.holds
+        fed_start limits (bytes ++ b ∷ []) (k.sent ++ b ∷ []) items blocks (record w { segments = s }) (e ∙ k.bounded) k.holds
         (ap (λ l. l ++ b ∷ []) t.same) (omega (arith, few_sent k.sent t.short, length-append k.sent (b ∷ []))) t.no_items t.blank came c between
     by (inr (tail, at)) =
-        fed_beside limits (bytes ++ b ∷ []) (k.sent ++ b ∷ []) items blocks (record w { segments = s }) (e ∙ k.bounded.0, k.bounded.1) k.holds
+        fed_beside limits (bytes ++ b ∷ []) (k.sent ++ b ∷ []) items blocks (record w { segments = s }) (e ∙ k.bounded) k.holds
         (tail ++ b ∷ []) (record { beside = beside_more limits (kept_rule limits) k.sent bytes items tail (b ∷ []) at.beside; leads = at.leads }) came c between
 
 -- BYTES that only continue
@@ -341,25 +340,23 @@ pub stretch_passes : (w : Items) (r : SegmentReader) (bytes : List ℕ) (n : ℕ
     → (reading_of r).limits ≡ (reading_of w.segments).limits → PassesItems w bytes n (record w { segments = r })
 stretch_passes w r bytes n (few, stands, parts) taken limits = record {
   within = few;
-  limits = refl;
-  same = limits;
+  limits = limits;
   taken = taken;
   stands = λ here front items blocks k.
-      (items, inl refl, passes_on here front items blocks w k (take n bytes) (record w { segments = r }) (stands k.sent (segments_of items) k.stands) limits refl refl);
+      (items, inl refl, passes_on here front items blocks w k (take n bytes) (record w { segments = r }) (stands k.sent (segments_of items) k.stands) limits refl);
 }
 
 -- NOTHING that was taken
-pub nothing_passes : (w new : Items) (bytes : List ℕ) → reading_of new.segments ≡ reading_of w.segments → new.limits ≡ w.limits → segments_view new.held ≡ segments_view w.held → PassesItems w bytes 0 new
-nothing_passes w new bytes same limits held = record {
+pub nothing_passes : (w new : Items) (bytes : List ℕ) → reading_of new.segments ≡ reading_of w.segments → segments_view new.held ≡ segments_view w.held → PassesItems w bytes 0 new
+nothing_passes w new bytes same held = record {
   within = omega arith;
-  limits = limits;
-  same = ap (λ (q : Reading). q.limits) same;
+  limits = ap (λ (q : Reading). q.limits) same;
   taken = omega (arith, ap (λ (q : Reading). q.taken) same);
   stands = λ here front items blocks k. (
     items,
     inl refl,
     passes_on here front items blocks w k [] new (subst (λ b. RepresentsSegments b (segments_of items) (reading_of new.segments)) (sym (append-nil k.sent)) (subst (λ (q : Reading). RepresentsSegments k.sent (segments_of items) q) (sym same) k.stands))
-        (ap (λ (q : Reading). q.limits) same) limits held,
+        (ap (λ (q : Reading). q.limits) same) held,
   );
 }
 
@@ -367,10 +364,10 @@ module _ (limits : Limits) (bytes : List ℕ) (items : List Item) (blocks : Bloc
   -- A COMPLETE SEGMENT breaks no rule, or has a fault
   pub segment_taken : (new : Items) → ((reading_of w.segments).code ≡ 0xda → ⊥)
       → contents_rule limits (segments_of items) (reading_of w.segments).code (reading_of w.segments).contents ≡ None
-      → reading_of new.segments ≡ reading_of w.segments → new.limits ≡ w.limits
+      → reading_of new.segments ≡ reading_of w.segments
       → Holds limits (segments_view new.held) (((reading_of w.segments).code, (reading_of w.segments).contents) ∷ segments_of items)
       → (more : List Item) × AddsNoScan items more × BetweenItems limits bytes more blocks new
-  segment_taken new other rule same f holds =
+  segment_taken new other rule same holds =
       let r = reading_of w.segments in
       let more : List Item = segment r.code r.contents ∷ items in
       let S : Reading → Type 0 = λ q. RepresentsSegments k.sent ((r.code, r.contents) ∷ segments_of items) q in (
@@ -386,7 +383,7 @@ module _ (limits : Limits) (bytes : List ℕ) (items : List Item) (blocks : Bloc
               leads = (k.allowed, rule, (k.at).leads);
             },
           );
-          bounded = (ap (λ (q : Reading). q.limits) same ∙ k.bounded.0, f ∙ k.bounded.1);
+          bounded = ap (λ (q : Reading). q.limits) same ∙ k.bounded;
           holds = holds;
         },
       )
@@ -397,18 +394,15 @@ module _ (limits : Limits) (bytes : List ℕ) (items : List Item) (blocks : Bloc
       contents_shown limits (kept_rule limits) k.sent bytes items (reading_of w.segments).code (reading_of w.segments).contents fault k.tail (k.at).beside k.spelled k.allowed k.no_end broken
 
 pub whole_passes : (w new : Items) (bytes : List ℕ) (code : ℕ) (contents : List ℕ) (n : ℕ) → PassesSegment (reading_of w.segments) code contents n (reading_of new.segments) → SpellsSegment code contents (take n bytes) → n ≤ length bytes → (code ≡ 0xda → ⊥)
-    → HoldsSegment (segments_view w.held) w.limits code contents took.Done (segments_view new.held) → new.limits ≡ w.limits → PassesItems w bytes n new
-whole_passes w new bytes code contents n p spelled few other takes same = record {
+    → HoldsSegment (segments_view w.held) (limits_in w) code contents took.Done (segments_view new.held) → PassesItems w bytes n new
+whole_passes w new bytes code contents n p spelled few other takes = record {
   within = few;
-  limits = same;
-  same = p.limits;
+  limits = p.limits;
   taken = p.taken;
   stands = λ limits front items blocks k.
-      (let within = k.bounded.0 in
-      let here = k.bounded.1 in
-      let kept = subst (λ (l : Limits). kept_rule l (segments_of items) code contents ≡ None) (within ∙ sym here) (p.kept k.sent (segments_of items) k.stands) in
-      let t = takes (segments_of items) (subst (λ (l : Limits). Holds l (segments_view w.held) (segments_of items)) (sym here) k.holds) kept in
-      whole_at limits front items blocks w k (take n bytes) code contents new p.was p.between (p.limits ∙ within) (same ∙ here) (p.stands k.sent (take n bytes) (segments_of items) k.stands spelled) other
+      (let here = k.bounded in
+      let t = takes (segments_of items) (subst (λ (l : Limits). Holds l (segments_view w.held) (segments_of items)) (sym here) k.holds) (p.kept k.sent (segments_of items) k.stands) in
+      whole_at limits front items blocks w k (take n bytes) code contents new p.was p.between (p.limits ∙ here) (p.stands k.sent (take n bytes) (segments_of items) k.stands spelled) other
       (subst (λ (l : Limits). contents_rule l (segments_of items) code contents ≡ None) here t.0) (subst (λ (l : Limits). Holds l (segments_view new.held) ((code, contents) ∷ segments_of items)) here t.1));
 }
 

@@ -3,7 +3,7 @@ use Rattle.std.proofs.Common.{◌≡◌, ℕ, ◌≤◌, Bool, true, false, List
 use Rattle.jpg_spec.specs.Bits.{bits_of_bytes}
 use Rattle.jpg_spec.specs.Geometry.{Frame, bounds, no_component}
 use Rattle.jpg_spec.specs.Scan.{Blocks}
-use Rattle.jpg_spec.specs.Markers.{Segment, Pass, soi, has_frame}
+use Rattle.jpg_spec.specs.Markers.{has_scan, Segment, Pass, soi, has_frame}
 use Rattle.jpg_spec.specs.Header.{header_rule}
 use Rattle.jpg_spec.specs.InForce.{no_frame, frame_of, frame_after, heads_of}
 use Rattle.jpg_spec.specs.History.{has_begun}
@@ -40,21 +40,25 @@ use Rattle.jpg_file.specs.Read.PictureRead.{MeansFor, RevealsFile}
 use Rattle.jpg_file.specs.Read.ReadFile.{EndsBetweenItems, HasRead, IsDone, IsEarlyEnd, ReaderState, TellsBegun}
 use Rattle.jpg_scans.specs.declared.progress.Progress.{Progress}
 use Rattle.jpg_file.specs.declared.read.scan_history.ScanHistory.{ScanHistory}
-use Rattle.jpg_file.specs.declared.read.file.FileWork.{FileWork}
+use Rattle.jpg_file.specs.declared.read.file.FileState.{FileState}
 use Rattle.jpg_file.specs.declared.read.picture.Picture.{Picture as Shown}
 use Rattle.jpg_file.proofs.Files.FileSteps.{frame_for, frame_left, one_begun, file_means}
 use Rattle.jpg_file.proofs.Files.ItemBytes.{part_after}
 use Rattle.jpg_file.proofs.Scans.Machines.{scans_keep_units}
 use Rattle.jpg_file.proofs.Scans.ScanBytes.{of_place}
+use Rattle.jpg_file.specs.declared.read.window.Window.{Window}
+use Rattle.jpg_file.specs.declared.read.window.Window.TheVariants as window
+use Rattle.jpg_file.specs.Read.Window.{coefs_in}
 
 -- A COMPLETE FILE
 
-pub file_leaves : (limits : Limits) (bytes : List ℕ) (w : FileWork) → (e : EndsFile limits bytes w) → Leaves limits (segments_of (e.ends).items) (e.ends).blocks w
-file_leaves limits bytes w e = by w.coefs refl ((e.ends).beside).picture
+pub file_leaves : (limits : Limits) (bytes : List ℕ) (w : FileState) → (e : EndsFile limits bytes w) → Leaves limits (segments_of (e.ends).items) (e.ends).blocks w
+file_leaves limits bytes w e = by w.window refl ((e.ends).beside).picture
   where
-    by : (q : Option Picture) → w.coefs ≡ q → PictureSoFar limits (e.ends).items (e.ends).blocks q → Leaves limits (segments_of (e.ends).items) (e.ends).blocks w
-    by None h (none, blank) = absurd (one_begun limits bytes w e none)
-    by (Some q) h (found, is, as_map) =
+    by : (q : Window) → w.window ≡ q → PictureSoFar limits (e.ends).items (e.ends).blocks (coefs_in q) → Leaves limits (segments_of (e.ends).items) (e.ends).blocks w
+    by window.None h (none, blank) = absurd (one_begun limits bytes w e none)
+    by (window.Row rows) h (none, blank) = absurd (one_begun limits bytes w e none)
+    by (window.All q) h (found, is, as_map) =
         let k = e.ends in
         let f = frame_left limits bytes w e in
         record {
@@ -71,7 +75,7 @@ file_leaves limits bytes w e = by w.coefs refl ((e.ends).beside).picture
           range = leads_in_range limits k.items k.blocks ((k.at).at).leads;
         }
 
-pub whole_leaves : (limits : Limits) (bytes : List ℕ) (w : FileWork) → EndsFile limits bytes w → LeavesPicture limits w
+pub whole_leaves : (limits : Limits) (bytes : List ℕ) (w : FileState) → EndsFile limits bytes w → LeavesPicture limits w
 whole_leaves limits bytes w e = (segments_of (e.ends).items, (e.ends).blocks, file_leaves limits bytes w e)
 
 pub takes_whole : (r : ReaderState) (bytes : List ℕ) (p : Shown) → RevealsFile r.file p → (d : IsDone bytes r) → MeansFor (keeping_of r.file) p d.meaning
@@ -105,17 +109,17 @@ not_named limits b before all h told some e w = clash all (told (frame_of limits
 -- WHERE IT IS
 
 -- what it leaves there, if each component has begun
-pub record EndsHere (limits : Limits) (bytes : List ℕ) (w : FileWork) (segments : List Segment) (blocks : Blocks) : Type 0 where
+pub record EndsHere (limits : Limits) (bytes : List ℕ) (w : FileState) (segments : List Segment) (blocks : Blocks) : Type 0 where
   pub have : HaveBegun limits bytes
   pub ends : (let M = meaning_of (frame_of limits segments) segments blocks in EndsAfter limits bytes M ⊎ EndsInside limits bytes M)
   pub coefs : Picture
-  pub has : w.coefs ≡ Some coefs
+  pub has : w.window ≡ window.All coefs
   pub framed : coefs.frame ≡ frame_of limits segments
   pub as_map : blocks ≡ map_of coefs
   pub range : AreInRange (bounds (frame_of limits segments)) blocks
 
 -- the segments up to there
-pub record AtEnd (limits : Limits) (bytes : List ℕ) (w : FileWork) : Type 0 where
+pub record AtEnd (limits : Limits) (bytes : List ℕ) (w : FileState) : Type 0 where
   pub segments : List Segment
   pub blocks : Blocks
   pub begun : HasBegun limits w.begun segments
@@ -161,21 +165,25 @@ filled_begun fill items tail (inl k) = inl k.1
 filled_begun fill items tail (inr k) = inr (filled_marker fill tail k)
 
 -- the picture there is
-record PictureHere (limits : Limits) (segments : List Segment) (blocks : Blocks) (o : Option Picture) : Type 0 where
+record PictureHere (limits : Limits) (segments : List Segment) (blocks : Blocks) (o : Window) : Type 0 where
   pub coefs : Picture
-  pub has : o ≡ Some coefs
+  pub has : o ≡ window.All coefs
   pub framed : coefs.frame ≡ frame_of limits segments
   pub as_map : blocks ≡ map_of coefs
 
-picture_here : (limits : Limits) (items : List Item) (blocks : Blocks) (o : Option Picture) → HasSome limits (segments_of items) → AllNamed limits (segments_of items) → PictureSoFar limits items blocks o → PictureHere limits (segments_of items) blocks o
-picture_here limits items blocks None some w (none, blank) =
+scan_there : (limits : Limits) (items : List Item) → HasSome limits (segments_of items) → AllNamed limits (segments_of items) → has_scan (segments_of items) ≡ false → ⊥
+scan_there limits items some w none =
     let f = frame_of limits (segments_of items) in
     let heads = no_heads f (segments_of items) none in
     let one = all_below (has_begun (heads_of f (segments_of items))) (length f.components) 0 w.complete some in
-    absurd (clash (has_begun (heads_of f (segments_of items)) 0) one (ap (λ hs. has_begun hs 0) heads))
-picture_here limits items blocks (Some q) some w (found, is, as_map) = record { coefs = q; has = refl; framed = is; as_map = as_map }
+    clash (has_begun (heads_of f (segments_of items)) 0) one (ap (λ hs. has_begun hs 0) heads)
 
-beside_end : (limits : Limits) (bytes sent : List ℕ) (w : FileWork) (s : IsBetweenFileItems limits bytes w) (tail : List ℕ) → IsBeside limits bytes sent s.items s.blocks tail → PartOfItem s.items tail → AtEnd limits bytes w
+picture_here : (limits : Limits) (items : List Item) (blocks : Blocks) (o : Window) → HasSome limits (segments_of items) → AllNamed limits (segments_of items) → PictureSoFar limits items blocks (coefs_in o) → PictureHere limits (segments_of items) blocks o
+picture_here limits items blocks (window.All q) some w (found, is, as_map) = record { coefs = q; has = refl; framed = is; as_map = as_map }
+picture_here limits items blocks window.None some w (none, blank) = absurd (scan_there limits items some w none)
+picture_here limits items blocks (window.Row rows) some w (none, blank) = absurd (scan_there limits items some w none)
+
+beside_end : (limits : Limits) (bytes sent : List ℕ) (w : FileState) (s : IsBetweenFileItems limits bytes w) (tail : List ℕ) → IsBeside limits bytes sent s.items s.blocks tail → PartOfItem s.items tail → AtEnd limits bytes w
 beside_end limits bytes sent w s tail k part =
     let b = (k.beside).behind in
     let all = replicate (k.beside).fill 255 ++ tail in
@@ -200,7 +208,7 @@ beside_end limits bytes sent w s tail k part =
           });
     }
 
-between_end : (limits : Limits) (bytes : List ℕ) (w : FileWork) → IsBetweenFileItems limits bytes w → AtEnd limits bytes w
+between_end : (limits : Limits) (bytes : List ℕ) (w : FileState) → IsBetweenFileItems limits bytes w → AtEnd limits bytes w
 between_end limits bytes w s = by (s.at).at
   where
     by : AtPlace limits bytes (s.at).sent s.items s.blocks → AtEnd limits bytes w
@@ -215,16 +223,16 @@ between_end limits bytes w s = by (s.at).at
     }
     by (inr (tail, k)) =
         let r = reading_of (w.items).segments in
-        beside_end limits bytes (s.at).sent w s tail k (part_after limits bytes (s.at).sent s.items s.blocks r tail r.phase (s.at).bounded.0 k ((s.at).stands).1)
+        beside_end limits bytes (s.at).sent w s tail k (part_after limits bytes (s.at).sent s.items s.blocks r tail r.phase (s.at).bounded k ((s.at).stands).1)
 
-pub ends_between : (limits : Limits) (bytes : List ℕ) (w : FileWork) → IsBetweenFileItems limits bytes w → EndsBetweenItems limits bytes
+pub ends_between : (limits : Limits) (bytes : List ℕ) (w : FileState) → IsBetweenFileItems limits bytes w → EndsBetweenItems limits bytes
 ends_between limits bytes w s = by (s.at).at
   where
     by : AtPlace limits bytes (s.at).sent s.items s.blocks → EndsBetweenItems limits bytes
     by (inl k) = inl (subst (λ z. (z ≡ []) ⊎ (z ≡ 255 ∷ [])) (sym k.same) k.short)
     by (inr (tail, k)) =
         let r = reading_of (w.items).segments in
-        let part = part_after limits bytes (s.at).sent s.items s.blocks r tail r.phase (s.at).bounded.0 k ((s.at).stands).1 in
+        let part = part_after limits bytes (s.at).sent s.items s.blocks r tail r.phase (s.at).bounded k ((s.at).stands).1 in
         inr (s.items, replicate (k.beside).fill 255 ++ tail, (k.beside).behind, filled_item (k.beside).fill s.items tail part)
 
 -- INSIDE THE DATA OF A SCAN
@@ -234,23 +242,23 @@ record InPart (limits : Limits) (p : ScanPlace) (now : Picture) : Type 0 where
   pub part : ScanInPart (scan_at limits p) p.blocks p.done p.coded p.places p.later (map_of now)
   pub framed : now.frame ≡ frame_of limits (segments_of p.items)
 
-in_part : (limits : Limits) (bytes : List ℕ) (w : FileWork) (s : IsInsideScanOfFile limits bytes w) → InPart limits (((s.at).at).place) (s.at).coefs
-in_part limits bytes w s = by (s.at).scan.whole (d.work).at
+in_part : (limits : Limits) (bytes : List ℕ) (w : FileState) (s : IsInsideScanOfFile limits bytes w) → InPart limits ((s.coded).place) s.coefs
+in_part limits bytes w s = by s.scan.whole (d.work).at
   where
-    d : InData limits s.items s.contents bytes (s.at).scan (s.at).coefs
-    d = (s.at).at
+    d : InData limits s.items s.contents bytes s.scan s.coefs
+    d = s.coded
 
     p : ScanPlace
-    p = ((s.at).at).place
+    p = (s.coded).place
 
     now : Picture
-    now = (s.at).coefs
+    now = s.coefs
 
-    by : (b : Bool) → AtInterval limits (((s.at).at).place) b (s.at).scan.machine (s.at).coefs → InPart limits (((s.at).at).place) (s.at).coefs
+    by : (b : Bool) → AtInterval limits ((s.coded).place) b s.scan.machine s.coefs → InPart limits ((s.coded).place) s.coefs
     by true k = record { part = inr k.so_far; framed = k.framed }
     by false k =
         let i = k.interval in
-        let u = scans_keep_units.unfinished (s.at).scan.machine i (bits_of_bytes p.coded) now k.stands in
+        let u = scans_keep_units.unfinished s.scan.machine i (bits_of_bytes p.coded) now k.stands in
         let stands = of_place limits p i (λ c us. StandsInUnits c us (u.whole ++ u.part) u.left (bits_of_bytes p.coded)) (d.work).readable k.is k.so_far u.stands in
         record {
           part = inl (record {
@@ -269,23 +277,22 @@ in_part limits bytes w s = by (s.at).scan.whole (d.work).at
           framed = u.frame ∙ k.framed;
         }
 
-inside_end : (limits : Limits) (bytes : List ℕ) (w : FileWork) → IsInsideScanOfFile limits bytes w → AtEnd limits bytes w
+inside_end : (limits : Limits) (bytes : List ℕ) (w : FileState) → IsInsideScanOfFile limits bytes w → AtEnd limits bytes w
 inside_end limits bytes w s =
-    let r = s.at in
-    let d = r.at in
+    let d = s.coded in
     let p = d.place in
     let tail = replicate d.fill 255 in
     let i = inside limits bytes p tail d.at in
     let before = segments_of p.items in
     let segments = segments_with p.items p.contents in
     let same : (0xda, s.contents) ∷ segments_of s.items ≡ segments = ap (λ z. segments_with z s.contents) (sym (d.of).0) ∙ ap (segments_with p.items) (sym (d.of).1) in
-    let after = map_of r.coefs in
+    let after = map_of s.coefs in
     let part = in_part limits bytes w s in
     record {
       segments = segments;
       blocks = after;
-      begun = subst (λ z. HasBegun limits w.begun z) same s.begun;
-      holds = subst (λ z. Holds limits (segments_view w.items.held) z) same (r.head).holds;
+      begun = subst (λ z. HasBegun limits w.begun z) same (s.held).begun;
+      holds = subst (λ z. Holds limits (segments_view w.items.held) z) same ((s.held).head).holds;
       headers = (i.allowed.0, header_too limits before 0xda p.contents i.allowed.1, leads_pass limits p.items p.blocks i.leads);
       named = begun_inside limits bytes tail d.fill i refl;
       here = λ some named.
@@ -293,24 +300,24 @@ inside_end limits bytes w s =
           record {
             have = inside_begun limits bytes tail i named;
             ends = inr (record { tail = tail; at = i; after = after; fill = (d.fill, refl); scan = part.part; meaning = refl });
-            coefs = r.coefs;
-            has = r.has;
+            coefs = s.coefs;
+            has = s.has;
             framed = part.framed;
             as_map = refl;
             range = record { sizes = range.1; values = range.0 };
           });
     }
 
-pub at_end : (limits : Limits) (bytes : List ℕ) (w : FileWork) → RepresentsFile limits bytes w → AtEnd limits bytes w
+pub at_end : (limits : Limits) (bytes : List ℕ) (w : FileState) → RepresentsFile limits bytes w → AtEnd limits bytes w
 at_end limits bytes w (inl s) = between_end limits bytes w s
 at_end limits bytes w (inr s) = inside_end limits bytes w s
 
 -- THE FILE ENDS THERE
 
-pub some_at : (limits : Limits) (bytes : List ℕ) (w : FileWork) → (a : AtEnd limits bytes w) → has_frame a.segments ≡ true → HasSome limits a.segments
+pub some_at : (limits : Limits) (bytes : List ℕ) (w : FileState) → (a : AtEnd limits bytes w) → has_frame a.segments ≡ true → HasSome limits a.segments
 some_at limits bytes w a found = some_for limits a.segments a.headers found
 
-pub tells_begun : (limits : Limits) (bytes : List ℕ) (w : FileWork) (all : Bool) → RepresentsFile limits bytes w → IsComplete w.begun.progress all → TellsBegun limits bytes all
+pub tells_begun : (limits : Limits) (bytes : List ℕ) (w : FileState) (all : Bool) → RepresentsFile limits bytes w → IsComplete w.begun.progress all → TellsBegun limits bytes all
 tells_begun limits bytes w all s told = by all refl
   where
     by : (b : Bool) → all ≡ b → TellsBegun limits bytes b
@@ -325,7 +332,7 @@ tells_begun limits bytes w all s told = by all refl
 pub each_complete : (o : Option Progress) (all : Bool) → HasBegunEach o → IsComplete o all → all ≡ true
 each_complete o all h told = told h.frame h.heads h.some h.scans ∙ h.each
 
-pub ends_each : (limits : Limits) (bytes : List ℕ) (w : FileWork) → EndsFile limits bytes w → HasBegunEach w.begun.progress
+pub ends_each : (limits : Limits) (bytes : List ℕ) (w : FileState) → EndsFile limits bytes w → HasBegunEach w.begun.progress
 ends_each limits bytes w e =
     let f = frame_of_items limits (e.ends).items in
     let left = frame_left limits bytes w e in
@@ -337,14 +344,14 @@ ends_each limits bytes w e =
       each = e.complete;
     }
 
-pub named_each : (limits : Limits) (bytes : List ℕ) (w : FileWork) (all : Bool) → RepresentsFile limits bytes w → IsComplete w.begun.progress all → all ≡ true → HasBegunEach w.begun.progress
+pub named_each : (limits : Limits) (bytes : List ℕ) (w : FileState) (all : Bool) → RepresentsFile limits bytes w → IsComplete w.begun.progress all → all ≡ true → HasBegunEach w.begun.progress
 named_each limits bytes w all s told e =
     let a = at_end limits bytes w s in
     let f = frame_of limits a.segments in
     let named = named_by limits w.begun a.segments all a.begun told (some_at limits bytes w a) e in
     record { frame = f; heads = heads_of f a.segments; some = some_at limits bytes w a named.found; scans = (a.begun).scans; each = named.complete }
 
-leaves_at : (limits : Limits) (bytes : List ℕ) (w : FileWork) → (a : AtEnd limits bytes w) → AllNamed limits a.segments → Leaves limits a.segments a.blocks w
+leaves_at : (limits : Limits) (bytes : List ℕ) (w : FileState) → (a : AtEnd limits bytes w) → AllNamed limits a.segments → Leaves limits a.segments a.blocks w
 leaves_at limits bytes w a named =
     let h = a.here (some_at limits bytes w a named.found) named in
     let f = frame_for limits a.segments w.items.held.frame (a.holds).frame a.headers named.found in
@@ -362,7 +369,7 @@ leaves_at limits bytes w a named =
       range = h.range;
     }
 
-pub early_leaves : (limits : Limits) (bytes : List ℕ) (w : FileWork) (all : Bool) → RepresentsFile limits bytes w → IsComplete w.begun.progress all → all ≡ true → LeavesPicture limits w
+pub early_leaves : (limits : Limits) (bytes : List ℕ) (w : FileState) (all : Bool) → RepresentsFile limits bytes w → IsComplete w.begun.progress all → all ≡ true → LeavesPicture limits w
 early_leaves limits bytes w all s told e =
     let a = at_end limits bytes w s in
     (a.segments, a.blocks, leaves_at limits bytes w a (named_by limits w.begun a.segments all a.begun told (some_at limits bytes w a) e))

@@ -13,11 +13,11 @@ use Rattle.jpg_spec.proofs.Files.TailsOnce.{goes_not_head}
 use Rattle.jpg_spec.proofs.Headers.HeadersOnce.{after_front}
 use Rattle.jpg_spec.proofs.Segments.MarkersOnce.{no_head}
 use Rattle.jpg_markers.specs.Reading.{reading_of}
-use Rattle.jpg_file.specs.Read.File.{IsBetweenFileItems, IsInsideScanOfFile, RepresentsFile, scans_ended, EndsFile, with_picture, TakesSome}
+use Rattle.jpg_file.specs.Read.File.{IsBetweenFileItems, IsInsideScanOfFile, RepresentsFile, scans_ended, EndsFile, with_picture, TakesSome, limits_of}
 use Rattle.jpg_file.specs.Read.Items.{AtPlace}
 use Rattle.jpg_file.specs.Read.SegmentState.{scan_headers, HasBegunEach}
 use Rattle.jpg_file.specs.Read.ScanPieces.{ScansEnded, AfterFeedScan, FeedsScan, NoScanEnds}
-use Rattle.jpg_file.specs.declared.read.file.FileWork.{FileWork}
+use Rattle.jpg_file.specs.declared.read.file.FileState.{FileState}
 use Rattle.jpg_file.proofs.Files.ItemBytes.{part_after}
 use Rattle.std.specs.Result.{result_err}
 use Rattle.std.proofs.lemmas.List.{take-append-le}
@@ -33,7 +33,7 @@ use Rattle.jpg_file.specs.Read.Strips.{AfterStrip, StripGoes, RepresentsStrip}
 use Rattle.jpg_file.specs.declared.read.pieces.FedRow.{FedRow}
 use Rattle.jpg_file.specs.declared.read.pieces.FedRow.TheVariants as fed
 use Rattle.jpg_file.specs.declared.read.rows.RowWork.{RowWork}
-use Rattle.jpg_file.specs.declared.read.strip_work.StripWork.{StripWork}
+use Rattle.jpg_file.specs.Read.Strips.{FileSeen}
 use Rattle.jpg_file.specs.declared.read.step.Step.TheVariants as step
 use Rattle.jpg_file.proofs.Files.FileSteps.{head_is, head_left, counted, file_means, stands_file, front_is, limits_are}
 use Rattle.jpg_file.proofs.Files.Leaving.{ends_each, filled_begun, filled_item, whole_leaves}
@@ -41,10 +41,11 @@ use Rattle.jpg_spec.proofs.Files.ScanSteps.{inside}
 use Rattle.jpg_file.specs.declared.read.pieces.FedScan.{FedScan}
 use Rattle.jpg_file.specs.declared.read.pieces.FedScan.TheVariants as came
 use Rattle.jpg_file.specs.declared.read.step.Step.{Step}
+use Rattle.jpg_spec.specs.declared.frame.Copying.{Copying}
 
 -- How many scans' data have ended in the bytes of a file, by its state.
 
-between_ended : (limits : Limits) (bytes : List ℕ) (w : FileWork) → IsBetweenFileItems limits bytes w → ScansEnded limits bytes (scans_ended w)
+between_ended : (limits : Limits) (bytes : List ℕ) (w : FileState) → IsBetweenFileItems limits bytes w → ScansEnded limits bytes (scans_ended w)
 between_ended limits bytes w s = by (s.at).at
   where
     all : scans_ended w ≡ scan_headers (segments_of s.items)
@@ -54,17 +55,17 @@ between_ended limits bytes w s = by (s.at).at
     by (inl start) = inl (subst (λ l. (l ≡ []) ⊎ (l ≡ 255 ∷ [])) (sym start.same) start.short, all ∙ ap (λ l. scan_headers (segments_of l)) start.no_items)
     by (inr (tail, at)) =
         let b = at.beside in
-        let part = part_after limits bytes (s.at).sent s.items s.blocks (reading_of (w.items).segments) tail (reading_of (w.items).segments).phase (s.at).bounded.0 at ((s.at).stands).1 in
+        let part = part_after limits bytes (s.at).sent s.items s.blocks (reading_of (w.items).segments) tail (reading_of (w.items).segments).phase (s.at).bounded at ((s.at).stands).1 in
         inr (inl (record { items = s.items; tail = replicate b.fill 255 ++ tail; behind = b.behind; part = filled_item b.fill s.items tail part; begun = filled_begun b.fill s.items tail b.plain; count = all }))
 
-inside_ended : (limits : Limits) (bytes : List ℕ) (w : FileWork) → IsInsideScanOfFile limits bytes w → ScansEnded limits bytes (scans_ended w)
+inside_ended : (limits : Limits) (bytes : List ℕ) (w : FileState) → IsInsideScanOfFile limits bytes w → ScansEnded limits bytes (scans_ended w)
 inside_ended limits bytes w s =
-    let d = (s.at).at in
-    let count = (s.begun).count in
-    let all : scans_ended w ≡ scan_headers (segments_of s.items) = ap (λ t. w.begun.scans - cond t 1 0) (ap is_some (s.at).inside) ∙ omega (arith, count) in
+    let d = s.coded in
+    let count = ((s.held).begun).count in
+    let all : scans_ended w ≡ scan_headers (segments_of s.items) = ap (λ t. w.begun.scans - cond t 1 0) (ap is_some s.inside) ∙ omega (arith, count) in
     inr (inr (record { fill = d.fill; inside = inside limits bytes d.place (replicate d.fill 255) d.at; count = all ∙ ap (λ l. scan_headers (segments_of l)) (sym d.of.0) }))
 
-pub state_ended : (limits : Limits) (bytes : List ℕ) (w : FileWork) → RepresentsFile limits bytes w → ScansEnded limits bytes (scans_ended w)
+pub state_ended : (limits : Limits) (bytes : List ℕ) (w : FileState) → RepresentsFile limits bytes w → ScansEnded limits bytes (scans_ended w)
 state_ended limits bytes w (inl s) = between_ended limits bytes w s
 state_ended limits bytes w (inr s) = inside_ended limits bytes w s
 
@@ -168,34 +169,34 @@ scans_more limits a x b n m e (inr (inr l)) k =
 
 -- What a reader keeps, and what it answers to a piece if it reads no MCU rows.
 
-go_open : (limits : Limits) (bytes : List ℕ) (rows : Option RowWork) (w : FileWork) → RowsGo limits bytes rows w → RowsOpen limits bytes rows w
+go_open : (limits : Limits) (bytes : List ℕ) (rows : Option RowWork) (w : FileState) → RowsGo limits bytes rows w → RowsOpen limits bytes rows w
 go_open limits bytes rows w g = record { stands = by rows g.goes; last = g.last }
   where
     by : (rows : Option RowWork) → StripGoes limits bytes rows w → RepresentsStrip limits bytes rows w
     by None k = k
     by (Some r) k = k.stands
 
-give_open : (limits : Limits) (bytes : List ℕ) (rows : Option RowWork) (w : FileWork) → RowsGive limits bytes rows w → RowsOpen limits bytes rows w
+give_open : (limits : Limits) (bytes : List ℕ) (rows : Option RowWork) (w : FileState) → RowsGive limits bytes rows w → RowsOpen limits bytes rows w
 give_open limits bytes rows w g = record { stands = by rows g.row; last = λ some. g.last }
   where
     by : (rows : Option RowWork) → AfterStrip limits bytes step.Row rows w → RepresentsStrip limits bytes rows w
     by None k = absurd k
     by (Some r) k = record { whole = k.whole; row = k.row; at = inl k.inside }
 
-pub ends_plain : (limits : Limits) (bytes : List ℕ) (rows : Option RowWork) (w : FileWork) → rows ≡ None → AfterStrip limits bytes step.Whole rows w → EndsFile limits bytes w
+pub ends_plain : (limits : Limits) (bytes : List ℕ) (rows : Option RowWork) (w : FileState) → rows ≡ None → AfterStrip limits bytes step.Whole rows w → EndsFile limits bytes w
 ends_plain limits bytes rows w none a = (let k = subst (λ (o : Option RowWork). AfterStrip limits bytes step.Whole o w) none a in k)
 
-whole_each : (limits : Limits) (bytes : List ℕ) (rows : Option RowWork) (w : FileWork) → AfterStrip limits bytes step.Whole rows w → HasBegunEach w.begun.progress
+whole_each : (limits : Limits) (bytes : List ℕ) (rows : Option RowWork) (w : FileState) → AfterStrip limits bytes step.Whole rows w → HasBegunEach w.begun.progress
 whole_each limits bytes None w a = ends_each limits bytes w a
 whole_each limits bytes (Some rows) w a = ends_each limits bytes (with_picture w a.whole) a.ends
 
 -- A PIECE of a reader that hasn't stopped
-pub keeps_piece : {scans : Bool} {r : ReaderState} {piece : List ℕ} {new : StripWork} (answer : Result FedRow Stop) → IsReading r → r.done ≡ false → r.stop ≡ None → ReadsPiece scans r.limits (work_of r) piece answer new
+pub keeps_piece : {scans : Bool} {r : ReaderState} {piece : List ℕ} {new : FileSeen} (answer : Result FedRow Stop) → IsReading r → r.done ≡ false → r.stop ≡ None → ReadsPiece scans r.limits (work_of r) piece answer new
     → IsReading (after_piece answer (with_work r new))
 keeps_piece {scans = scans} {r = r} {piece = piece} {new = new} answer k undone skip t = record {
   limited = k.limited;
   in_rows = λ by. t.keeps.by_row ∙ k.in_rows by;
-  keeping = λ by. t.keeps.keeping ∙ k.keeping by;
+  keeping = λ by. ap (λ s. s.0) t.keeps.keeping ∙ k.keeping by;
   sparing = λ by. t.keeps.sparing (k.keeping by) (k.sparing by);
   «open» = λ none going. opened answer t.read none going;
   ended = λ done none. (let w = whole answer t.read done in whole_leaves r.limits w.0 new.file (ends_plain r.limits w.0 new.rows new.file none w.1));
@@ -225,43 +226,43 @@ keeps_piece {scans = scans} {r = r} {piece = piece} {new = new} answer k undone 
     whole (Err e) t done = absurd cc
 
 -- as the reader is seen with this work
-abbrev state_of : Limits → StripWork → Bool → Bool → Option Stop → ReaderState
-state_of limits work by done stopped = record { limits = limits; file = work.file; by_row = by; in_rows = work.by_row; rows = work.rows; strip = work.strip; done = done; stop = stopped }
+abbrev state_of : FileSeen → Bool → Bool → Option Stop → ReaderState
+state_of work by done stopped = record { limits = limits_of work.file; file = work.file; by_row = by; in_rows = work.by_row; rows = work.rows; strip = work.strip; done = done; stop = stopped }
 
-module _ {limits : Limits} {by was done scans : Bool} {old new : StripWork} {before after : Option Stop} {piece : List ℕ} {answer : Result FedRow Stop} {now : ReaderState} (view : state_of limits old by was before ≡ now) (k : IsReading (state_of limits old by was before))
-    (undone : now.done ≡ false) (skip : before ≡ None) (took : ReadsPiece scans limits old piece answer new) (is : done ≡ is_done answer) (stopped : after ≡ result_err answer) where
+module _ {by was done scans : Bool} {old new : FileSeen} {before after : Option Stop} {piece : List ℕ} {answer : Result FedRow Stop} {now : ReaderState} (view : state_of old by was before ≡ now) (k : IsReading (state_of old by was before))
+    (undone : now.done ≡ false) (skip : before ≡ None) (took : ReadsPiece scans (limits_of old.file) old piece answer new) (is : done ≡ is_done answer) (stopped : after ≡ result_err answer) where
   going : was ≡ false
   going = ap (λ (q : ReaderState). q.done) view ∙ undone
 
-  comes : state_of limits new by done after ≡ after_piece answer (with_work (state_of limits old by was before) new)
-  comes = ap (λ d. state_of limits new by d after) is ∙ ap (λ o. state_of limits new by (is_done answer) o) stopped
+  comes : state_of new by done after ≡ after_piece answer (with_work (state_of old by was before) new)
+  comes = ap (λ (s : Copying × Limits). let r : ReaderState = record (state_of new by done after) { limits = s.1 } in r) took.keeps.keeping ∙ ap (λ d. let r : ReaderState = record (state_of new by d after) { limits = limits_of old.file } in r) is ∙ ap (λ o. let r : ReaderState = record (state_of new by (is_done answer) o) { limits = limits_of old.file } in r) stopped
 
-  pub kept : IsReading (state_of limits new by done after)
+  pub kept : IsReading (state_of new by done after)
   kept = subst (λ (r : ReaderState). IsReading r) (sym comes) (keeps_piece answer k going skip took)
 
-  pub reads_into : ReadsInto scans now piece answer (state_of limits new by done after)
-  reads_into = subst (λ (r : ReaderState). ReadsInto scans r piece answer (state_of limits new by done after)) view (record { reading = k; undone = going; work = new; read = took; is = comes })
+  pub reads_into : ReadsInto scans now piece answer (state_of new by done after)
+  reads_into = subst (λ (r : ReaderState). ReadsInto scans r piece answer (state_of new by done after)) view (record { reading = k; undone = going; work = new; read = took; is = comes })
 
 -- WHERE NO MCU ROWS ARE READ
 
-pub plain_stands : (limits : Limits) (bytes : List ℕ) (o : Option RowWork) (w : FileWork) → o ≡ None → RepresentsStrip limits bytes o w → RepresentsFile limits bytes w
+pub plain_stands : (limits : Limits) (bytes : List ℕ) (o : Option RowWork) (w : FileState) → o ≡ None → RepresentsStrip limits bytes o w → RepresentsFile limits bytes w
 plain_stands limits bytes o w none s = (let k = subst (λ (x : Option RowWork). RepresentsStrip limits bytes x w) none s in k)
 
-pub plain_open : (limits : Limits) (bytes : List ℕ) (o : Option RowWork) (w : FileWork) → o ≡ None → RepresentsFile limits bytes w → RowsOpen limits bytes o w
+pub plain_open : (limits : Limits) (bytes : List ℕ) (o : Option RowWork) (w : FileState) → o ≡ None → RepresentsFile limits bytes w → RowsOpen limits bytes o w
 plain_open limits bytes o w none s = subst (λ (x : Option RowWork). RowsOpen limits bytes x w) (sym none) (record { stands = s; last = λ some. absurd cc })
 
-pub plain_goes : (limits : Limits) (bytes : List ℕ) (o : Option RowWork) (w : FileWork) → o ≡ None → RowsGo limits bytes o w → RepresentsFile limits bytes w
+pub plain_goes : (limits : Limits) (bytes : List ℕ) (o : Option RowWork) (w : FileState) → o ≡ None → RowsGo limits bytes o w → RepresentsFile limits bytes w
 plain_goes limits bytes o w none g = (let k = subst (λ (x : Option RowWork). StripGoes limits bytes x w) none g.goes in k)
 
 -- more may follow
-pub fed_more : (r : ReaderState) (new : StripWork) {all : List ℕ} → new.rows ≡ None → RowsGo r.limits all new.rows new.file → new.file.taken < r.limits.input → HasRead all (after_piece (Ok fed.More) (with_work r new))
+pub fed_more : (r : ReaderState) (new : FileSeen) {all : List ℕ} → new.rows ≡ None → RowsGo r.limits all new.rows new.file → new.file.taken < r.limits.input → HasRead all (after_piece (Ok fed.More) (with_work r new))
 fed_more r new {all = all} none g few =
     let k = plain_goes r.limits all new.rows new.file none g in
     let c = counted r.limits all new.file k in
     record { skip_ahead = refl; undone = refl; short = omega (arith, few, c); stands = stands_file r.limits all new.file k; «open» = k; head = head_is r.limits all new.file k }
 
 -- they are complete
-pub fed_done : (r : ReaderState) (new : StripWork) {all : List ℕ} (used : ℕ) → new.rows ≡ None → AfterStrip r.limits all step.Whole new.rows new.file → IsDone all (after_piece (Ok (fed.Done used)) (with_work r new))
+pub fed_done : (r : ReaderState) (new : FileSeen) {all : List ℕ} (used : ℕ) → new.rows ≡ None → AfterStrip r.limits all step.Whole new.rows new.file → IsDone all (after_piece (Ok (fed.Done used)) (with_work r new))
 fed_done r new {all = all} used none a =
     let k = ends_plain r.limits all new.rows new.file none a in
     record { done = refl; meaning = _; whole = file_means r.limits all new.file k; ended = k; head = head_left r.limits all new.file k }
@@ -294,14 +295,14 @@ AfterPlain bytes piece (Ok (fed.Row used)) r = HasRead (bytes ++ take used piece
 AfterPlain bytes piece (Ok (fed.Done used)) r = IsDone (bytes ++ take used piece) r × (1 ≤ used) × (used ≤ length piece)
 AfterPlain bytes piece (Err e) r = AfterFeed bytes piece (Err e) r
 
-pub no_row : {old new : StripWork} {limits : Limits} {bytes piece : List ℕ} {used : ℕ} → new.rows ≡ None → RowsOpen limits bytes old.rows old.file → TakesPiece limits old piece used step.Row new → ⊥
+pub no_row : {old new : FileSeen} {limits : Limits} {bytes piece : List ℕ} {used : ℕ} → new.rows ≡ None → RowsOpen limits bytes old.rows old.file → TakesPiece limits old piece used step.Row new → ⊥
 no_row {new = new} {limits = limits} {bytes = bytes} {piece = piece} {used = used} none h t =
     (let g = subst (λ (o : Option RowWork). AfterStrip limits (bytes ++ take used piece) step.Row o new.file) none ((t.after bytes h).0).row in g)
 
 here : {old : ReaderState} {bytes : List ℕ} → IsPlain old → HasRead bytes old → RowsOpen old.limits bytes old.rows old.file
 here {old = old} {bytes = bytes} plain h = plain_open old.limits bytes old.rows old.file plain.1 h.open
 
-module _ {old : ReaderState} {new : StripWork} {bytes piece : List ℕ} (plain : IsPlain old) (h : HasRead bytes old) where
+module _ {old : ReaderState} {new : FileSeen} {bytes piece : List ℕ} (plain : IsPlain old) (h : HasRead bytes old) where
   plain_after : (scans : Bool) (answer : Result FedRow Stop) → ReadsPiece scans old.limits (work_of old) piece answer new → AfterPlain bytes piece answer (after_piece answer (with_work old new))
   plain_after scans answer t = by scans answer t.read
     where
@@ -329,7 +330,7 @@ scan_row (Ok (came.Scan used)) = Ok (fed.Row used)
 scan_row (Ok (came.Done used)) = Ok (fed.Done used)
 scan_row (Err e) = Err e
 
-abbrev counts_none : (limits : Limits) (bytes piece : List ℕ) (old : FileWork) (early : ℕ) → RepresentsFile limits bytes old → CountsOn limits old piece early → NoScanEnds limits bytes piece early
+abbrev counts_none : (limits : Limits) (bytes piece : List ℕ) (old : FileState) (early : ℕ) → RepresentsFile limits bytes old → CountsOn limits old piece early → NoScanEnds limits bytes piece early
 counts_none limits bytes piece old early h k = record {
   n = scans_ended old;
   few = k.few;
@@ -348,7 +349,7 @@ module _ {old new : ReaderState} {piece : List ℕ} (plain : IsPlain old) where
   pub feeds : (answer : Result FedRow Stop) (came : Result Fed Stop) → answer ≡ as_row came → ReadsOne false old piece answer new → FeedsFile old piece came new
   feeds answer came is reads bytes h = (let t = subst (λ (a : Result FedRow Stop). ReadsInto false old piece a new) is (reads h.skip_ahead) in subst (λ (r : ReaderState). AfterFeed bytes piece came r) (sym t.is) (by came t.read))
     where
-      by : (came : Result Fed Stop) {work : StripWork} → ReadsPiece false old.limits (work_of old) piece (as_row came) work → AfterFeed bytes piece came (after_piece (as_row came) (with_work old work))
+      by : (came : Result Fed Stop) {work : FileSeen} → ReadsPiece false old.limits (work_of old) piece (as_row came) work → AfterFeed bytes piece came (after_piece (as_row came) (with_work old work))
       by (Ok whole.More) t = plain_after plain h false (Ok fed.More) t
       by (Ok (whole.Done used)) t = plain_after plain h false (Ok (fed.Done used)) t
       by (Err e) t = plain_after plain h false (Err e) t
@@ -364,7 +365,7 @@ module _ {old new : ReaderState} {piece : List ℕ} (plain : IsPlain old) where
       none_ends : (early : ℕ) → CountsOn old.limits old.file piece early → NoScanEnds old.limits bytes piece early
       none_ends early k = counts_none old.limits bytes piece old.file early h.open k
 
-      by : (told : Result FedScan Stop) {work : StripWork} → ReadsPiece true old.limits (work_of old) piece (scan_row told) work → AfterFeedScan bytes piece told (after_piece (scan_row told) (with_work old work))
+      by : (told : Result FedScan Stop) {work : FileSeen} → ReadsPiece true old.limits (work_of old) piece (scan_row told) work → AfterFeedScan bytes piece told (after_piece (scan_row told) (with_work old work))
       by (Ok came.More) {work = work} t =
           let fed_on = plain_after plain h true (Ok fed.More) t in (
             fed_on,
@@ -408,10 +409,10 @@ module _ {old new : ReaderState} {piece : List ℕ} (plain : IsPlain old) where
 -- A piece of a file that is read up to the end of a scan's data.
 
 -- No bytes of the piece were taken, or before the last of them no further scan's data have ended.
-pub record ScansSoFar (limits : Limits) (old : StripWork) (piece : List ℕ) (done : ℕ) (answer : Step) (work : StripWork) : Type 0 where
+pub record ScansSoFar (limits : Limits) (old : FileSeen) (piece : List ℕ) (done : ℕ) (answer : Step) (work : FileSeen) : Type 0 where
   pub at : ((done ≡ 0) × (answer ≡ step.More) × (scans_ended work.file ≡ scans_ended old.file)) ⊎ CountsBefore limits old.file piece done
 
-module _ {limits : Limits} {old work : StripWork} {piece : List ℕ} {done : ℕ} {answer : Step} (s : ScansSoFar limits old piece done answer work) where
+module _ {limits : Limits} {old work : FileSeen} {piece : List ℕ} {done : ℕ} {answer : Step} (s : ScansSoFar limits old piece done answer work) where
   pub scans_early : (early : ℕ) × (done ≤ early + 1) × CountsOn limits old.file piece early
   scans_early = by s.at
     where
@@ -431,7 +432,7 @@ module _ {limits : Limits} {old work : StripWork} {piece : List ℕ} {done : ℕ
       by (inr b) = b
 
 -- with some more bytes
-pub scans_counted : {limits : Limits} {old work new : StripWork} {piece : List ℕ} {done n : ℕ} (answer : Step) → TakesPiece limits old piece done step.More work → old.rows ≡ None → old.by_row ≡ false → scans_ended work.file ≡ scans_ended old.file
+pub scans_counted : {limits : Limits} {old work new : FileSeen} {piece : List ℕ} {done n : ℕ} (answer : Step) → TakesPiece limits old piece done step.More work → old.rows ≡ None → old.by_row ≡ false → scans_ended work.file ≡ scans_ended old.file
     → TakesBytes work (take (length piece - done) (drop done piece)) n answer new → CountsBefore limits old.file piece (done + n)
 scans_counted {limits = limits} {old = old} {work = work} {new = new} {piece = piece} {done = done} {n = n} answer s none plain same taken = (
   done + some.early,

@@ -58,8 +58,10 @@ use Rattle.jpg_huff.specs.Definitions.{definitions_of}
 use Rattle.jpg_markers.specs.Reading.{reading_of}
 use Rattle.jpg_file.specs.Read.ScanStart.{Begins}
 use Rattle.jpg_file.specs.Read.File.{HeadWhole}
-use Rattle.jpg_file.specs.declared.read.file.FileWork.{FileWork}
+use Rattle.jpg_file.specs.declared.read.file.FileState.{FileState}
 use Rattle.jpg_file.proofs.Files.ItemBytes.{segment_fault}
+use Rattle.jpg_file.specs.declared.read.window.Window.TheVariants as window
+use Rattle.jpg_file.proofs.Headers.InForce.{all_once}
 
 -- The parameters of a scan header that is accepted (T.81, B.2.3, G.1.1.1).
 
@@ -378,12 +380,12 @@ in_order limits before contents f head b h lacks same parts e told is_head few k
 
 -- A scan header taken by the reader of a file.
 
-abbrev pub Judges : FileWork → ScanHistory → Frame → List ℕ → Result ScanHead Fault → Type 0
+abbrev pub Judges : FileState → ScanHistory → Frame → List ℕ → Result ScanHead Fault → Type 0
 Judges r b f k answer = (limits : Limits) (before : List Segment) → frame_of limits before ≡ f → Holds limits (segments_view r.items.held) before → HasBegun limits b before → Judged limits before k f (segments_view r.items.held) answer
 
 -- where this frame and this picture are kept, and the contents of the header were judged
-module _ (limits : Limits) (bytes : List ℕ) (items : List Item) (blocks : Blocks) (r : FileWork) (f held : Frame) (q : Picture) (contents : List ℕ)
-    (h : HeadWhole limits bytes items blocks r) (kept : r.items.held.frame ≡ Some held) (copied : f ≡ held) (pictured : r.coefs ≡ Some q)
+module _ (limits : Limits) (bytes : List ℕ) (items : List Item) (blocks : Blocks) (r : FileState) (f held : Frame) (q : Picture) (contents : List ℕ)
+    (h : HeadWhole limits bytes items blocks r) (kept : r.items.held.frame ≡ Some held) (copied : f ≡ held) (pictured : r.window ≡ window.All q)
     (given : contents ≡ (reading_of (r.items).segments).contents) where
   is_held : h.frame ≡ f
   is_held = some_once h.frame held (sym h.framed ∙ kept) ∙ sym copied
@@ -422,8 +424,8 @@ module _ (limits : Limits) (bytes : List ℕ) (items : List Item) (blocks : Bloc
             };
             codings = same_coding f head (in_force set) (huffman_in_force (segments_of items)) (tables_held limits view (segments_of items) set k.holds (sym built));
             restart = (k.holds).interval;
-            pictured = sym (ap (λ (c : Picture). c.frame) (some_once h.coefs q (sym h.has ∙ pictured))) ∙ h.pictured ∙ is_held;
-            as_map = h.as_map ∙ ap (λ c. map_of c) (some_once h.coefs q (sym h.has ∙ pictured));
+            pictured = sym (ap (λ (c : Picture). c.frame) (all_once h.coefs q (sym h.has ∙ pictured))) ∙ h.pictured ∙ is_held;
+            as_map = h.as_map ∙ ap (λ c. map_of c) (all_once h.coefs q (sym h.has ∙ pictured));
           };
         },
         j.3,

@@ -18,7 +18,7 @@ use Rattle.jpg_spec.specs.declared.jfif.Jfif.{Jfif}
 use Rattle.jpg_spec.proofs.Basics.Common.{both, clash, or_right, some_once, length_below, some_of, neither, not_same, same_of}
 use Rattle.jpg_file.specs.Read.File.{keeping_of, head_or}
 use Rattle.jpg_file.specs.Read.SegmentState.{begins_header, is_wanted, kept_for, Holds, segments_view, SegmentView, lacks_any, lacks_part, AddsScan, quant_named, HasBegun, RepresentsHeads, scan_headers}
-use Rattle.jpg_file.specs.declared.read.file.FileWork.{FileWork}
+use Rattle.jpg_file.specs.declared.read.file.FileState.{FileState}
 use Rattle.jpg_spec.proofs.Segments.QuantsInForce.{IsQuants, in_force_quants}
 use Rattle.jpg_spec.specs.Lists.{below, any_of, is_among}
 use Rattle.jpg_spec.specs.Geometry.{Frame, bounds, component_at, no_component}
@@ -56,6 +56,7 @@ use Rattle.jpg_file.specs.declared.read.first_header.Head.{Head}
 use Rattle.jpg_spec.proofs.Files.ItemSteps.{fill_begin, fill_part, fill_segment}
 use Rattle.jpg_file.proofs.Files.ItemBytes.{part_after, segment_long}
 use Rattle.jpg_spec.proofs.Headers.FileHeader.{no_scan_spelled}
+use Rattle.jpg_file.specs.declared.read.window.Window.TheVariants as window
 
 -- The JFIF and Adobe segments of a picture are the same without the markers that are left out.
 
@@ -137,7 +138,7 @@ passed_same copying.Comments kept = filter_in (λ s. s.0 == 0xfe) (is_wanted cop
 passed_same copying.All kept = all_kept kept
 
 -- WHAT A READER KEEPS of the markers of the picture
-pub markers_kept : (limits : Limits) (segments : List Segment) (blocks : Blocks) (w : FileWork) → Holds limits (segments_view w.items.held) segments
+pub markers_kept : (limits : Limits) (segments : List Segment) (blocks : Blocks) (w : FileState) → Holds limits (segments_view w.items.held) segments
     → w.items.held.kept ≡ (kept_for (keeping_of w) (meaning_of (frame_of limits segments) segments blocks)).kept
 markers_kept limits segments blocks w holds = holds.kept ∙ sym (filter_reverse (is_wanted (keeping_of w)) (kept_after segments))
 
@@ -179,12 +180,16 @@ colour_is p e =
     ∙ ap (λ l. colours_of (length told) l p.jfif.seen (adobe_transform p.kept)) (sym (names_same f p.quants))
     ∙ ap (λ j. colours_of (length told) (map (λ c. c.id) told) j.seen (adobe_transform p.kept)) (sym e)
 
+-- one window, one picture
+pub all_once : (a b : Made) → window.All a ≡ window.All b → a ≡ b
+all_once a b e = cc
+
 -- WHAT A FILE LEAVES
 
 -- what the parts of the picture are
-pub record IsLeft (w : FileWork) (p : PictureParts) : Type 0 where
+pub record IsLeft (w : FileState) (p : PictureParts) : Type 0 where
   pub frame : w.items.held.frame ≡ Some p.frame
-  pub coefs : w.coefs ≡ Some p.coefs
+  pub coefs : w.window ≡ window.All p.coefs
   pub kept : p.kept ≡ (segments_view w.items.held).kept
   pub few : length p.frame.components ≤ 4
   pub tables : (i : ℕ) → i < length p.frame.components → slice_index_or p.quants i [] ≡ unwrap_or (quant_in w.begun.quants i) []
@@ -210,7 +215,7 @@ quant_sound f (s ∷ before) i t e = by (s.0 == 0xda) e (λ u h. quant_sound f b
     by false h older = older t h
     by true h older = first (quant_of f before i) (names (head_in f s.1) i) h older
 
-module _ (limits : Limits) (segments : List Segment) (blocks : Blocks) (w : FileWork) (e : Leaves limits segments blocks w) where
+module _ (limits : Limits) (segments : List Segment) (blocks : Blocks) (w : FileState) (e : Leaves limits segments blocks w) where
   pub table_left : (i : ℕ) → length (frame_of limits segments).components ≤ 4 → i < length (frame_of limits segments).components
       → is_none (quant_in w.begun.quants i) ≡ false
   table_left i few low =
@@ -223,7 +228,7 @@ module _ (limits : Limits) (segments : List Segment) (blocks : Blocks) (w : File
   left_picture : (p : PictureParts) → IsLeft w p → LeftPicture limits segments blocks p
   left_picture p l =
       let same = left_framed p.frame l.frame in
-      let is = some_once e.coefs p.coefs (sym e.has ∙ l.coefs) in
+      let is = all_once e.coefs p.coefs (sym e.has ∙ l.coefs) in
       record { frame = same; grids = ap (λ (c : Made). c.frame) (sym is) ∙ e.framed ∙ same; same = e.as_map ∙ ap map_of is }
 
   pub left_means : (p : PictureParts) → IsLeft w p → parts_meaning p ≡ kept_for (keeping_of w) (meaning_of (frame_of limits segments) segments blocks)
@@ -494,7 +499,7 @@ between_header limits bytes items blocks w k none = by k.at
           segments_of items,
           replicate b.fill 255 ++ tail,
           (record { front = behind.front; cut = behind.cut; spelled = no_scan_spelled items behind.front behind.spelled none; passed = leads_pass limits items blocks at.leads }, none),
-          filled b.fill tail (part_after limits bytes k.sent items blocks r tail r.phase k.bounded.0 at (k.stands).1),
+          filled b.fill tail (part_after limits bytes k.sent items blocks r tail r.phase k.bounded at (k.stands).1),
         )
 
 pub no_head : (limits : Limits) (bytes : List ℕ) → UnfinishedHeader limits bytes → HasNoHead limits bytes

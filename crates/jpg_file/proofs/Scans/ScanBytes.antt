@@ -28,15 +28,16 @@ use Rattle.jpg_coefs.specs.declared.machine.Taken.{Taken}
 use Rattle.jpg_coefs.specs.declared.machine.Taken.TheVariants as taken
 use Rattle.jpg_coefs.proofs.Chains.{answer_to, chain_stands, some_taken}
 use Rattle.jpg_file.specs.declared.read.machine.ScanReader.{ScanReader}
-use Rattle.jpg_file.specs.Read.Machine.{any_scan, AnswersIn, GivesBits, all_stored}
+use Rattle.jpg_file.specs.Read.Machine.{any_scan, AnswersIn, GivesBits}
 use Rattle.jpg_huff.specs.Gate.{IsData}
 use Rattle.jpg_file.specs.declared.read.scan.InScan.{InScan}
 use Rattle.jpg_file.specs.Read.InData.{frame_at, IsReadable, IsInterval, IsDue, IsRead, AtInterval, AreIntervals, AtWork, MarkerAt, Waits, InData, AfterMarker, ends_interval, scan_answer, work_after, ArePlain, scan_left, IsInside, AfterByte, AfterBytes, HalfData, IsDataOf, TakesByte, TakesByteInto, TakesRun, TakesRunInto}
 use Rattle.jpg_file.proofs.Scans.Machines.{distinct_places, interval_fits, same_units, scans_keep_units}
-use Rattle.jpg_file.specs.declared.read.items.ItemStep.TheVariants as step
-use Rattle.jpg_file.specs.declared.read.file.FileWork.{FileWork}
-use Rattle.jpg_file.specs.Read.File.{waiting_bytes, Scanning}
+use Rattle.jpg_file.specs.declared.read.file.FileState.{FileState}
+use Rattle.jpg_file.specs.Read.File.{waiting_bytes, IsInsideScanOfFile}
 use Rattle.jpg_spec.proofs.Basics.Common.{some_once}
+use Rattle.jpg_file.specs.declared.read.window.Window.TheVariants as window
+use Rattle.jpg_file.proofs.Headers.InForce.{all_once}
 
 abbrev pub Due : Limits → ScanPlace → ScanReader → Picture → Type 0
 Due limits p m now = IsDue ScanReader any_scan limits p m now
@@ -452,7 +453,7 @@ few_wait false = omega arith
 few_wait true = omega arith
 
 -- all blocks of the picture are stored, and no bits wait
-pub whole_data : (limits : Limits) (items : List Item) (contents bytes : List ℕ) (s : InScan) (now : Picture) → InData limits items contents bytes s now → IsDataOf Picture all_stored s now
+pub whole_data : (limits : Limits) (items : List Item) (contents bytes : List ℕ) (s : InScan) (now : Picture) → InData limits items contents bytes s now → IsDataOf s (window.All now)
 whole_data limits items contents bytes s now d = record {
   whole = now;
   shows = refl;
@@ -460,16 +461,15 @@ whole_data limits items contents bytes s now d = record {
   due = λ e. (let k = of_work limits d.place s now e d.work in (scans_keep_units.unfinished s.machine k.interval k.taken now k.stands).some);
 }
 
-pub whole_byte : (s new : InScan) (now after : Picture) (byte : ℕ) (answer : Result Bool Named) → TakesByteInto all_stored s now byte answer new after → TakesByte s now byte answer [] new after
+pub whole_byte : (s new : InScan) (now after : Picture) (byte : ℕ) (answer : Result Bool Named) → TakesByteInto s (window.All now) byte answer new (window.All after) → TakesByte s now byte answer [] new after
 whole_byte s new now after byte answer t = λ limits items contents bytes d.
     (let k = t now refl (limits, items, contents, bytes, d) in subst (λ (q : Picture). AfterByte limits items contents (bytes ++ byte ∷ []) byte answer [] new q) (sym k.1) (k.2 limits items contents bytes d))
 
-pub whole_run : (s new : InScan) (now after : Picture) (run : List ℕ) (n : ℕ) (answer : Result Bool Named) → IsInside s now → TakesRunInto all_stored s now run n answer new after → TakesRun s now run n answer [] new after
+pub whole_run : (s new : InScan) (now after : Picture) (run : List ℕ) (n : ℕ) (answer : Result Bool Named) → IsInside s now → TakesRunInto s (window.All now) run n answer new (window.All after) → TakesRun s now run n answer [] new after
 whole_run s new now after run n answer inside t = (let k = t now refl inside in subst (λ (q : Picture). TakesRun s now run n answer [] new q) (sym k.1) k.2)
 
 -- the bytes are represented by the picture and the scan that are kept
-pub data_of : {w : FileWork} {coefs : Picture} {scan : InScan} → w.coefs ≡ Some coefs → w.scan ≡ Some scan → {limits : Limits} {items : List Item} {contents bytes : List ℕ} → Scanning limits items contents bytes w
-    → InData limits items contents bytes scan coefs
-data_of {w} {coefs} {scan} has is {limits} {items} {contents} {bytes} s =
-    subst (λ (q : Picture). InData limits items contents bytes scan q) (some_once s.coefs coefs (sym s.has ∙ has))
-    (subst (λ (q : InScan). InData limits items contents bytes q s.coefs) (some_once s.scan scan (sym s.inside ∙ is)) s.at)
+pub data_of : {w : FileState} {coefs : Picture} {scan : InScan} → w.window ≡ window.All coefs → w.scan ≡ Some scan → {limits : Limits} {bytes : List ℕ} → (s : IsInsideScanOfFile limits bytes w) → InData limits s.items s.contents bytes scan coefs
+data_of {w} {coefs} {scan} has is {limits} {bytes} s =
+    subst (λ (q : Picture). InData limits s.items s.contents bytes scan q) (all_once s.coefs coefs (sym s.has ∙ has))
+    (subst (λ (q : InScan). InData limits s.items s.contents bytes q s.coefs) (some_once s.scan scan (sym s.inside ∙ is)) s.coded)

@@ -1,5 +1,5 @@
 -- The marker that ends a scan's data belongs to an item again.
-use Rattle.std.proofs.Common.{Result, ◌≡◌, ℕ, ◌+◌, true, List, [], ◌∷◌, ◌++◌, refl, sym, ap, ◌∙◌, subst, arith, length, Ok, append_assoc, length-append}
+use Rattle.std.proofs.Common.{Result, ◌≡◌, ℕ, true, List, [], ◌∷◌, ◌++◌, refl, sym, ap, ◌∙◌, subst, arith, length, Ok, Err, append_assoc, length-append}
 use Rattle.jpg_spec.specs.Scan.{Blocks}
 use Rattle.jpg_spec.specs.Markers.{Segment, kept_rule}
 use Rattle.jpg_spec.specs.Markers as markers
@@ -7,19 +7,18 @@ use Rattle.jpg_spec.specs.Items.{Item, scan, segments_of}
 use Rattle.jpg_spec.specs.declared.frame.Limits.{Limits}
 use Rattle.jpg_spec.proofs.Files.ItemSteps.{same_tail, scan_left}
 use Rattle.jpg_coefs.specs.Picture.{Picture, map_of}
-use Rattle.jpg_base.specs.declared.stop.Stop.TheVariants as stop
 use Rattle.jpg_base.specs.declared.stop.Stop.{Stop}
+use Rattle.jpg_base.specs.declared.stop.Stop.TheVariants as stop
 use Rattle.jpg_markers.specs.declared.segments.SegStep.{SegStep}
 use Rattle.jpg_markers.specs.declared.segments.SegStep.TheVariants as step
 use Rattle.jpg_markers.specs.declared.segments.Phase.{Phase}
 use Rattle.jpg_markers.specs.declared.segments.Phase.TheVariants as phase
-use Rattle.jpg_markers.specs.Reading.{Reading, RepresentsSegments, AtPhase, IsBetween, Comes, reading_of}
+use Rattle.jpg_markers.specs.Reading.{Reading, RepresentsSegments, AtPhase, IsBetween, Comes, HasMemory, reading_of}
 use Rattle.jpg_file.specs.Read.InData.{EndsData}
 use Rattle.jpg_file.specs.Read.SegmentState.{SegmentView, Holds, segments_view}
 use Rattle.jpg_file.specs.declared.read.items.Items.{Items}
-use Rattle.jpg_file.specs.declared.read.items.ItemStep.TheVariants as came
-use Rattle.jpg_file.specs.Read.Items.{IsBeside, AfterSegment, BehindHead}
-use Rattle.jpg_file.proofs.Files.ItemBytes.{Fed, fed_beside, segment_long}
+use Rattle.jpg_file.specs.Read.Items.{IsBeside, AfterScan, AfterSegment, BehindHead, IsOfMarker}
+use Rattle.jpg_file.proofs.Files.ItemBytes.{fed_beside, no_whole, segment_long}
 use Rattle.jpg_markers.specs.declared.segments.SegmentReader.{SegmentReader}
 
 -- A scan header changes nothing that is kept, except that a scan began.
@@ -63,6 +62,11 @@ no_whole_marker limits sent before code c contents r e b p a = by p a
     by phase.Ended k = k
     by q k = within q k
 
+of_marker : (came : Result SegStep Stop) → (came ≡ Ok step.Whole → ⊥) → HasMemory came → IsOfMarker came
+of_marker (Ok step.Whole) not has = absurd (not refl)
+of_marker (Err stop.NoMemory) not has = absurd has
+of_marker other not has = tt
+
 module _ (limits : Limits) (items : List Item) (contents bytes : List ℕ) (code : ℕ) (now : Picture) (w : Items) (k : BehindHead limits items contents w) where
   left_at : EndsData limits items contents bytes code now → Left limits items contents bytes code now w k
   left_at e =
@@ -70,7 +74,7 @@ module _ (limits : Limits) (items : List Item) (contents bytes : List ℕ) (code
       let p = e.place in
       let all : List Segment = (0xda, contents) ∷ segments_of items in
       let (tail, between, seen, none) = subst (λ (q : Phase). AtPhase r q k.sent all) k.behind.1 k.stands.1 in
-      let b = subst (λ (l : Limits). markers.Between (kept_rule l) k.sent all tail) k.bounded.0 between in
+      let b = subst (λ (l : Limits). markers.Between (kept_rule l) k.sent all tail) k.bounded between in
       let b0 = subst (λ t. markers.Between (kept_rule limits) k.sent all t) none b in
       let b1 = subst (λ c. markers.Between (kept_rule limits) k.sent ((0xda, c) ∷ segments_of items) []) (sym e.of.1) b0 in
       let b2 = subst (λ (i : List Item). markers.Between (kept_rule limits) k.sent ((0xda, p.contents) ∷ segments_of i) []) (sym e.of.0) b1 in
@@ -86,26 +90,28 @@ module _ (limits : Limits) (items : List Item) (contents bytes : List ℕ) (code
   abbrev before : List Segment
   before = (0xda, contents) ∷ segments_of items
 
-  pub left_whole : (s : SegmentReader) → EndsData limits items contents bytes code now → Comes sent before (Ok step.Whole) (reading_of s)
+  left_whole : (s : SegmentReader) → EndsData limits items contents bytes code now → Comes sent before (Ok step.Whole) (reading_of s)
       → (reading_of s).limits ≡ (reading_of w.segments).limits → ⊥
   left_whole s e c same =
       let r = reading_of s in
-      no_whole_marker limits sent before code r.code r.contents r (same ∙ k.bounded.0) (((left_at e).at).beside).between r.phase c.1.1
+      no_whole_marker limits sent before code r.code r.contents r (same ∙ k.bounded) (((left_at e).at).beside).between r.phase c.1.1
 
   pub left_comes : (s : SegmentReader) (came answer : Result SegStep Stop) → came ≡ answer → EndsData limits items contents bytes code now → Comes sent before came (reading_of s)
-      → (reading_of s).limits ≡ (reading_of w.segments).limits
-      → (intervals : List (List ℕ)) × Fed limits bytes (scan contents intervals ∷ items) (map_of now) answer (record w { segments = s })
-  left_comes s came answer is e c same =
+      → (reading_of s).limits ≡ (reading_of w.segments).limits → HasMemory came → AfterScan limits items contents bytes (map_of now) answer (record w { segments = s })
+  left_comes s came answer is e c same has =
       let l = left_at e in
-      let all : List Item = scan contents l.intervals ∷ items in (
+      let all : List Item = scan contents l.intervals ∷ items in
+      let new : Items = record w { segments = s } in
+      let not : came ≡ Ok step.Whole → ⊥ = λ h. left_whole s e (subst (λ (a : Result SegStep Stop). Comes sent before a (reading_of s)) h c) same in
+      subst (λ (a : Result SegStep Stop). AfterScan limits items contents bytes (map_of now) a new) is (
         l.intervals,
-        subst (λ (a : Result SegStep Stop). Fed limits bytes all (map_of now) a (record w { segments = s })) is (fed_beside limits bytes sent all (map_of now) (record w { segments = s }) (same ∙ k.bounded.0, k.bounded.1) k.holds (255 ∷ code ∷ []) l.at came c
-            (λ (h : came ≡ Ok step.Whole). absurd (left_whole s e (subst (λ (a : Result SegStep Stop). Comes sent before a (reading_of s)) h c) same))),
+        no_whole limits bytes all (map_of now) came new not (fed_beside limits bytes sent all (map_of now) new (same ∙ k.bounded) k.holds (255 ∷ code ∷ []) l.at came c (λ h. absurd (not h))),
+        of_marker came not has,
       )
 
 pub after_head : (limits : Limits) (bytes : List ℕ) (items : List Item) (blocks : Blocks) (w new : Items) → AfterSegment limits bytes items blocks w → (reading_of w.segments).code ≡ 0xda
-    → reading_of new.segments ≡ reading_of w.segments → new.limits ≡ w.limits → segments_view new.held ≡ record (segments_view w.held) { scanned = true } → BehindHead limits items (reading_of w.segments).contents new
-after_head limits bytes items blocks w new k code same f held =
+    → reading_of new.segments ≡ reading_of w.segments → segments_view new.held ≡ record (segments_view w.held) { scanned = true } → BehindHead limits items (reading_of w.segments).contents new
+after_head limits bytes items blocks w new k code same held =
     let r = reading_of w.segments in
     let S : Reading → Type 0 = λ q. RepresentsSegments k.sent ((0xda, r.contents) ∷ segments_of items) q in
     let stands = subst (λ (n : ℕ). RepresentsSegments k.sent ((n, r.contents) ∷ segments_of items) r) code k.stands in
@@ -113,6 +119,6 @@ after_head limits bytes items blocks w new k code same f held =
       sent = k.sent;
       stands = subst S (sym same) stands;
       behind = (ap (λ (q : Reading). q.stop) same ∙ k.stands.0, ap (λ (q : Reading). q.phase) same ∙ k.phase, ap (λ (q : Reading). q.code) same ∙ code);
-      bounded = (ap (λ (q : Reading). q.limits) same ∙ k.bounded.0, f ∙ k.bounded.1);
+      bounded = ap (λ (q : Reading). q.limits) same ∙ k.bounded;
       holds = subst (λ h. Holds limits h ((0xda, r.contents) ∷ segments_of items)) (sym held) (head_held limits (segments_view w.held) (segments_of items) r.contents k.holds);
     }

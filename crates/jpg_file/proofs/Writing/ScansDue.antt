@@ -33,7 +33,7 @@ use Rattle.std.proofs.Math.Path.{fun_ext}
 use Rattle.jpg_spec_write.proofs.WrittenState.{holds_is}
 use Rattle.jpg_spec.specs.FrameHeader.{identifiers}
 use Rattle.jpg_scans.specs.Restarts.{restart_of}
-use Rattle.jpg_file.proofs.Writing.ScanData.{data_same, elements_same, same_mcus}
+use Rattle.jpg_file.proofs.Writing.FewSymbols.{data_same, elements_same, same_mcus}
 use Rattle.std.proofs.lemmas.Option.{get_or_from_slice_get, slice_get_within}
 use Rattle.jpg_spec.specs.Grids.{Grids, frame_grids}
 use Rattle.jpg_spec.specs.Markers.{eoi}

@@ -19,7 +19,9 @@ use Rattle.jpg_coefs.specs.Picture.{Picture, map_of}
 use Rattle.jpg_coefs.specs.Machine.{Interval, Kind, Follows, fault_of}
 use Rattle.jpg_coefs.specs.declared.machine.Taken.{Taken}
 use Rattle.jpg_coefs.specs.declared.machine.Taken.TheVariants as taken
-use Rattle.jpg_file.specs.Read.Machine.{any_scan, IsInsideMcuRow, GivesBits, BlocksKind}
+use Rattle.jpg_file.specs.Read.Machine.{any_scan, IsInsideMcuRow, GivesBits}
+use Rattle.jpg_file.specs.Read.Window.{Fits, PassesBytes, Shows, waiting_in}
+use Rattle.jpg_file.specs.declared.read.window.Window.{Window}
 use Rattle.jpg_file.specs.declared.read.machine.ScanReader.{ScanReader}
 use Rattle.jpg_file.specs.declared.read.scan.InScan.{InScan}
 use Rattle.jpg_spec.specs.FrameHeader.{IsFrame}
@@ -291,13 +293,13 @@ pub record TakesRun (old : InScan) (now : Picture) (run : List ℕ) (n : ℕ) (a
   pub last : (limits : Limits) (items : List Item) (contents bytes : List ℕ) → InData limits items contents bytes mid between → AfterBytes limits items contents (bytes ++ slice_index run early ∷ []) answer waiting new after
 
 -- whatever picture the blocks are of
-abbrev pub TakesByteInto : {B : Type 0} → BlocksKind B → InScan → B → ℕ → Result Bool Fault → InScan → B → Type 0
-TakesByteInto k old b byte answer new after =
-    (whole : Picture) → k.shows b whole → IsInside old whole → (now : Picture) × k.shows after now × TakesByte old whole byte answer (k.waiting after) new now
+abbrev pub TakesByteInto : InScan → Window → ℕ → Result Bool Fault → InScan → Window → Type 0
+TakesByteInto old b byte answer new after =
+    (whole : Picture) → Shows b whole → IsInside old whole → (now : Picture) × Shows after now × TakesByte old whole byte answer (waiting_in after) new now
 
-abbrev pub TakesRunInto : {B : Type 0} → BlocksKind B → InScan → B → List ℕ → ℕ → Result Bool Fault → InScan → B → Type 0
-TakesRunInto k old b run n answer new after =
-    (whole : Picture) → k.shows b whole → IsInside old whole → (now : Picture) × k.shows after now × TakesRun old whole run n answer (k.waiting after) new now
+abbrev pub TakesRunInto : InScan → Window → List ℕ → ℕ → Result Bool Fault → InScan → Window → Type 0
+TakesRunInto old b run n answer new after =
+    (whole : Picture) → Shows b whole → IsInside old whole → (now : Picture) × Shows after now × TakesRun old whole run n answer (waiting_in after) new now
 
 -- the bits that wait
 abbrev pub TakesRestInRow : InScan → RowWork → Result Bool Fault → InScan → RowWork → Type 0
@@ -306,11 +308,11 @@ TakesRestInRow old w answer new after =
     → (now : Picture) × IsRowOf after.tops now after.coefs × AfterBytes limits items contents bytes answer after.waiting new now
 
 -- somewhere inside data; if units are left, the next ones are among the blocks
-pub record IsDataOf (B : Type 0) (k : BlocksKind B) (s : InScan) (b : B) : Type 0 where
+pub record IsDataOf (s : InScan) (b : Window) : Type 0 where
   pub whole : Picture
-  pub shows : k.shows b whole
+  pub shows : Shows b whole
   pub inside : IsInside s whole
-  pub due : s.whole ≡ false → k.fits b s.machine
+  pub due : s.whole ≡ false → Fits b s.machine
 
 -- inside data after some bits of a byte; if units are left, the next ones are those that are left of the MCU row
 pub record IsHalfRow (s : InScan) (w : RowWork) : Type 0 where
@@ -329,23 +331,23 @@ pub record TookData (P : Taken → ScanReader → Type 0) (old : InScan) (answer
   pub took : P taken machine
 
 -- a byte that is data for the machine
-pub record PassesData (B : Type 0) (k : BlocksKind B) (old : InScan) (b : B) (byte : ℕ) (answer : Result Bool Fault) (new : InScan) (after : B) : Type 0 where
+pub record PassesData (old : InScan) (b : Window) (byte : ℕ) (answer : Result Bool Fault) (new : InScan) (after : Window) : Type 0 where
   pub passed : ℕ
   pub is_data : IsData old.gate byte passed
-  pub took : TookData (λ taken m. k.bytes b old.machine (passed ∷ []) 1 taken after m) old answer new
+  pub took : TookData (λ taken m. PassesBytes b old.machine (passed ∷ []) 1 taken after m) old answer new
 
 abbrev pub IsWrongMarker : InScan → ℕ → Type 0
 IsWrongMarker s code = (s.gate ≡ true) × (code ≡ 0 → ⊥) × (code ≡ 255 → ⊥) × (s.whole ≡ true → code ≡ 0xd0 + s.turn → ⊥)
 
 -- another byte: it is a fault if it is data after a complete interval, or a marker other than the one that is next
-pub record PassesNone (B : Type 0) (old : InScan) (b : B) (byte : ℕ) (answer : Result Bool Fault) (new : InScan) (after : B) : Type 0 where
+pub record PassesNone (old : InScan) (b : Window) (byte : ℕ) (answer : Result Bool Fault) (new : InScan) (after : Window) : Type 0 where
   pub same : after ≡ b
   pub left : scan_left new ≡ scan_left old
   pub why : (fault : Fault) → answer ≡ Err fault → ((passed : ℕ) × IsData old.gate byte passed × (old.whole ≡ true)) ⊎ IsWrongMarker old byte
 
-abbrev pub PassesByte : {B : Type 0} → BlocksKind B → InScan → B → ℕ → Result Bool Fault → InScan → B → Type 0
-PassesByte k old b byte answer new after = PassesNone _ old b byte answer new after ⊎ PassesData _ k old b byte answer new after
+abbrev pub PassesByte : InScan → Window → ℕ → Result Bool Fault → InScan → Window → Type 0
+PassesByte old b byte answer new after = PassesNone old b byte answer new after ⊎ PassesData old b byte answer new after
 
 -- plain bytes
-abbrev pub PassesRun : {B : Type 0} → BlocksKind B → InScan → B → List ℕ → ℕ → Result Bool Fault → InScan → B → Type 0
-PassesRun k old b run n answer new after = (old.gate ≡ false) × ArePlain run × TookData (λ taken m. k.bytes b old.machine run n taken after m) old answer new
+abbrev pub PassesRun : InScan → Window → List ℕ → ℕ → Result Bool Fault → InScan → Window → Type 0
+PassesRun old b run n answer new after = (old.gate ≡ false) × ArePlain run × TookData (λ taken m. PassesBytes b old.machine run n taken after m) old answer new

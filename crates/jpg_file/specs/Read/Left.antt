@@ -9,12 +9,13 @@ use Rattle.jpg_spec.specs.Ranges.{AreInRange}
 use Rattle.jpg_spec.specs.declared.frame.Limits.{Limits}
 use Rattle.jpg_coefs.specs.Picture.{Picture, map_of}
 use Rattle.jpg_file.specs.Read.SegmentState.{HasBegun, Holds, segments_view}
-use Rattle.jpg_file.specs.declared.read.file.FileWork.{FileWork}
+use Rattle.jpg_file.specs.declared.read.file.FileState.{FileState}
+use Rattle.jpg_file.specs.declared.read.window.Window.TheVariants as window
 
 -- Each component was in a scan of these segments, and the coefficients are these blocks, in their range.
-pub record Leaves (limits : Limits) (segments : List Segment) (blocks : Blocks) (w : FileWork) : Type 0 where
+pub record Leaves (limits : Limits) (segments : List Segment) (blocks : Blocks) (w : FileState) : Type 0 where
   pub coefs : Picture
-  pub has : w.coefs ≡ Some coefs
+  pub has : w.window ≡ window.All coefs
   pub framed : coefs.frame ≡ frame_of limits segments
   pub as_map : blocks ≡ map_of coefs
   pub frame : Frame
@@ -26,5 +27,5 @@ pub record Leaves (limits : Limits) (segments : List Segment) (blocks : Blocks) 
   pub range : AreInRange (bounds (frame_of limits segments)) blocks
 
 -- whatever segments and blocks
-abbrev pub LeavesPicture : Limits → FileWork → Type 0
+abbrev pub LeavesPicture : Limits → FileState → Type 0
 LeavesPicture limits w = (segments : List Segment) × (blocks : Blocks) × Leaves limits segments blocks w

@@ -1,5 +1,5 @@
 -- The result of the bits of an interval, given to its machine (T.81, F.2.2, G.2).
-use Rattle.std.specs.Prelude.{◌≡◌, ℕ, ◌+◌, ◌<◌, Bool, List, [], ◌++◌, length, take, slice_index, Result, Ok, Err, ◌==◌, if◌then◌else◌, true, false, All, ◌≤◌}
+use Rattle.std.specs.Prelude.{◌≡◌, ℕ, ◌+◌, ◌<◌, Bool, List, [], ◌++◌, length, take, slice_index, Result, Ok, Err, ◌==◌, if◌then◌else◌, true, false, All}
 use Rattle.jpg_spec.specs.Bits.{bits_of, bits_of_bytes}
 use Rattle.jpg_coefs.specs.Picture.{Picture, map_of}
 use Rattle.jpg_coefs.specs.Machine.{Chain, ChainTo, Kind, Interval, TakesBits}
@@ -145,38 +145,3 @@ IsBareScan f head set (Sequential m) = (is_progressive f.process ≡ false) × I
 IsBareScan f head set (DcFirst m) = (is_progressive f.process ≡ true) × (head.ss ≡ 0) × (head.ah ≡ 0) × IsBareFirst f head m
 IsBareScan f head set (DcRefine m) = (i : Interval) → IsOfHeader f head set i → any_scan.ready (DcRefine m) i
 IsBareScan f head set (Ac m) = (i : Interval) → IsOfHeader f head set i → any_scan.ready (Ac m) i
-
--- The blocks that the data of a scan are read into: all of a picture, or those of one row of its MCUs (T.81, A.2.3).
-
--- The picture of which they are a part, the bits of the last byte that wait, whether the machine's next units are among
--- them, and what else is known of bytes that were given to the machine.
-pub record BlocksKind (B : Type 0) : Type 1 where
-  pub shows : B → Picture → Type 0
-  pub waiting : B → List Bool
-  pub fits : B → ScanReader → Type 0
-  pub bytes : B → ScanReader → List ℕ → ℕ → Taken → B → ScanReader → Type 0
-
--- all of a picture
-abbrev pub all_stored : BlocksKind Picture
-all_stored = record {
-  shows = λ stored whole. stored ≡ whole;
-  waiting = λ stored. [];
-  fits = λ stored m. 1 ≤ any_scan.left m;
-  bytes = λ stored m bytes n answer new after. Unit {0};
-}
-
--- a machine may be given data
-pub record CanTake (B : Type 0) (k : BlocksKind B) (b : B) (m : ScanReader) : Type 0 where
-  pub whole : Picture
-  pub shows : k.shows b whole
-  pub given : IsOpenRowScan m whole
-  pub fits : k.fits b m
-
--- whatever picture they are of
-abbrev pub TakesBitsInto : {B : Type 0} → BlocksKind B → B → ScanReader → List Bool → Taken → B → ScanReader → Type 0
-TakesBitsInto k b m bits answer new after =
-    (whole : Picture) → k.shows b whole → IsOpenRowScan m whole → (now : Picture) × k.shows new now × GivesBits any_scan m whole bits answer (k.waiting new) after now
-
-abbrev pub TakesBytesInto : {B : Type 0} → BlocksKind B → B → ScanReader → List ℕ → ℕ → Taken → B → ScanReader → Type 0
-TakesBytesInto k b m bytes n answer new after =
-    (whole : Picture) → k.shows b whole → IsOpenRowScan m whole → (now : Picture) × k.shows new now × GivesRun ScanReader any_scan m whole bytes n answer (k.waiting new) after now

@@ -12,7 +12,7 @@ use Rattle.jpg_file.specs.Read.SegmentState.{kept_for}
 use Rattle.jpg_file.specs.Read.Left.{Leaves}
 use Rattle.jpg_file.specs.Read.PictureKept.{PictureParts, parts_meaning}
 use Rattle.jpg_file.specs.Read.ReadFile.{IsDone, IsEarlyEnd, ReaderState}
-use Rattle.jpg_file.specs.declared.read.file.FileWork.{FileWork}
+use Rattle.jpg_file.specs.declared.read.file.FileState.{FileState}
 use Rattle.jpg_file.specs.declared.read.picture.Picture.{Picture}
 
 abbrev pub picture_parts : Picture → PictureParts
@@ -27,7 +27,7 @@ abbrev pub MeansFor : Copying → Picture → Meaning → Type 0
 MeansFor keeping p M = picture_meaning p ≡ kept_for keeping M
 
 -- Whatever is left of the file, the picture means it, with the markers that were kept.
-abbrev pub RevealsFile : FileWork → Picture → Type 0
+abbrev pub RevealsFile : FileState → Picture → Type 0
 RevealsFile w p =
     (limits : Limits) (segments : List Segment) (blocks : Blocks) → Leaves limits segments blocks w → MeansFor (keeping_of w) p (meaning_of (frame_of limits segments) segments blocks)
 

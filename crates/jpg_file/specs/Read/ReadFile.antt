@@ -17,18 +17,20 @@ use Rattle.jpg_base.specs.declared.stop.Fed.{Fed}
 use Rattle.jpg_base.specs.declared.stop.Fed.TheVariants as came
 use Rattle.jpg_base.specs.declared.stop.Stop.{Stop}
 use Rattle.jpg_base.specs.declared.stop.Stop.TheVariants as stop
+use Rattle.jpg_markers.specs.declared.segments.SegStep.{SegStep}
+use Rattle.jpg_markers.specs.declared.segments.SegStep.TheVariants as item
 use Rattle.jpg_file.specs.Read.FirstHeader.{IsFirstHeaderOf}
 use Rattle.jpg_file.specs.Read.Left.{Leaves, LeavesPicture}
 use Rattle.jpg_file.specs.declared.read.ends.End.{End}
 use Rattle.jpg_file.specs.declared.read.ends.End.TheVariants as ends
-use Rattle.jpg_file.specs.Read.File.{EndsFile, IsStop, RepresentsFile, keeping_of, HasCompleteHeader, TakesSome, limits_of, scans_ended}
+use Rattle.jpg_file.specs.Read.File.{AfterFileByte, AfterFileStep, EndsFile, IsStop, RepresentsFile, keeping_of, HasCompleteHeader, TakesSome, limits_of, scans_ended, settings_of}
 use Rattle.jpg_file.specs.declared.read.first_header.Head.{Head}
-use Rattle.jpg_file.specs.declared.read.file.FileWork.{FileWork}
+use Rattle.jpg_file.specs.declared.read.file.FileState.{FileState}
 use Rattle.jpg_file.specs.declared.read.rows.RowWork.{RowWork}
 use Rattle.jpg_file.specs.declared.read.strip_head.StripHead.{StripHead}
 use Rattle.jpg_spec.specs.declared.frame.Copying.TheVariants as copying
-use Rattle.jpg_file.specs.Read.Strips.{AfterStrip, SparesRows, StripGoes, RepresentsStrip, RowsFault, KnowsByte, KnowsHead, KnowsRows, KnowsSome, NoRowsIn, NoneByte, NoneHead, NoneSome, NoneAfter, LacksRow, CountsRowsOfScan, CountsStrip, GoesByRow, StopsRows, TakesStrip, TellsStrip, rows_of_scan, HasNoRows, RepresentsRows}
-use Rattle.jpg_file.specs.declared.read.strip_work.StripWork.{StripWork}
+use Rattle.jpg_file.specs.Read.Strips.{FileSeen, AfterStrip, SparesRows, StripGoes, RepresentsStrip, RowsFault, KnowsByte, KnowsHead, KnowsRows, KnowsSome, NoRowsIn, NoneByte, NoneHead, NoneSome, NoneAfter, LacksRow, CountsRowsOfScan, CountsStrip, GoesByRow, StopsRows, TakesStrip, TellsStrip, rows_of_scan, HasNoRows, RepresentsRows}
+use Rattle.jpg_file.specs.declared.read.scan.InScan.{InScan}
 use Rattle.jpg_file.specs.declared.read.step.Step.TheVariants as step
 use Rattle.jpg_file.specs.Read.Step.{IfStops, IfWants, IsNoRow, HasMemory}
 use Rattle.jpg_file.specs.declared.read.pieces.FedRow.{FedRow}
@@ -47,10 +49,10 @@ use Rattle.jpg_file.specs.Read.PictureKept.{IsHeadOfPicture}
 
 -- what contracts see of a reader: the state of its file, whether it is read MCU row by MCU row with no markers kept, whether
 -- it is read so at all, the current MCU row and the head of its picture once there is one, whether it is done (it is complete or ended early, so that nothing may be
--- came any more), and why it stopped, if it did
+-- fed any more), and why it stopped, if it did
 pub record ReaderState : Type 0 where
   pub limits : Limits
-  pub file : FileWork
+  pub file : FileState
   pub by_row : Bool
   pub in_rows : Bool
   pub rows : Option RowWork
@@ -58,7 +60,7 @@ pub record ReaderState : Type 0 where
   pub done : Bool
   pub stop : Option Stop
 
--- The bytes were came. They have no fault and aren't a complete file, and more may follow.
+-- The bytes were fed. They have no fault and aren't a complete file, and more may follow.
 pub record HasRead (bytes : List ℕ) (r : ReaderState) : Type 0 where
   pub skip_ahead : r.stop ≡ None
   pub undone : r.done ≡ false
@@ -84,7 +86,7 @@ pub record IsEarlyEnd (bytes : List ℕ) (r : ReaderState) : Type 0 where
   pub left : Leaves r.limits segments blocks r.file
   pub head : IsFirstHeaderOf r.limits bytes r.file.head
 
--- whether each component has begun in bytes that were came
+-- whether each component has begun in bytes that were fed
 abbrev pub TellsBegun : Limits → List ℕ → Bool → Type 0
 TellsBegun limits bytes true = HaveBegun limits bytes
 TellsBegun limits bytes false = HaveBegun limits bytes → ⊥
@@ -110,7 +112,7 @@ KeepsHeadAt limits bytes f head =
 abbrev pub head_seen : ReaderState → Option (Frame × Colour × ℕ)
 head_seen r = option_map (λ h. (h.frame, h.colour, h.at)) r.file.head
 
--- THE RESULT of a piece that is came, by all bytes so far. A fault is after the bytes before the piece.
+-- THE RESULT of a piece that is fed, by all bytes so far. A fault is after the bytes before the piece.
 abbrev pub AfterFeed : List ℕ → List ℕ → Result Fed Stop → ReaderState → Type 0
 AfterFeed bytes piece (Ok came.More) r = HasRead (bytes ++ piece) r
 AfterFeed bytes piece (Ok (came.Done used)) r = IsDone (bytes ++ take used piece) r × (1 ≤ used) × (used ≤ length piece)
@@ -131,12 +133,12 @@ pub record AsksForMemory (limits : Limits) (fewest : ℕ) (bytes : List ℕ) (he
   pub between : EndsBetweenItems limits (take n bytes)
   pub kept : IsFirstHeaderOf limits (take n bytes) head
 
--- if a piece that is came has the result NoMemory
+-- if a piece that is fed has the result NoMemory
 abbrev pub AsksOnFeed : ReaderState → List ℕ → Result Fed Stop → ReaderState → Type 0
 AsksOnFeed old piece answer new =
     (bytes : List ℕ) → HasRead bytes old → answer ≡ Err stop.NoMemory → AsksForMemory new.limits (length bytes) (bytes ++ piece) new.file.head
 
--- for all bytes that were came before
+-- for all bytes that were fed before
 abbrev pub FeedsFile : ReaderState → List ℕ → Result Fed Stop → ReaderState → Type 0
 FeedsFile old piece answer new = (bytes : List ℕ) → HasRead bytes old → AfterFeed bytes piece answer new
 
@@ -176,34 +178,34 @@ abbrev pub LastByte : Limits → List ℕ → Option RowWork → Type 0
 LastByte limits bytes rows = is_some rows ≡ true → HasLastByte limits bytes
 
 -- the state is that of the bytes, of whose last one bits may wait
-pub record RowsOpen (limits : Limits) (bytes : List ℕ) (rows : Option RowWork) (w : FileWork) : Type 0 where
+pub record RowsOpen (limits : Limits) (bytes : List ℕ) (rows : Option RowWork) (w : FileState) : Type 0 where
   pub stands : RepresentsStrip limits bytes rows w
   pub last : LastByte limits bytes rows
 
 -- and no bits wait
-pub record RowsGo (limits : Limits) (bytes : List ℕ) (rows : Option RowWork) (w : FileWork) : Type 0 where
+pub record RowsGo (limits : Limits) (bytes : List ℕ) (rows : Option RowWork) (w : FileState) : Type 0 where
   pub goes : StripGoes limits bytes rows w
   pub last : LastByte limits bytes rows
 
 -- a further MCU row is complete with the bytes
-pub record RowsGive (limits : Limits) (bytes : List ℕ) (rows : Option RowWork) (w : FileWork) : Type 0 where
+pub record RowsGive (limits : Limits) (bytes : List ℕ) (rows : Option RowWork) (w : FileState) : Type 0 where
   pub row : AfterStrip limits bytes step.Row rows w
   pub last : HasLastByte limits bytes
 
 -- WHAT DOESN'T CHANGE: whether MCU rows are read, the current one, the head of its picture, which markers are to be
 -- kept, and that no memory is asked for
-pub record KeepsWork (old new : StripWork) : Type 0 where
+pub record KeepsWork (old new : FileSeen) : Type 0 where
   pub by_row : new.by_row ≡ old.by_row
   pub plain : old.rows ≡ None → old.by_row ≡ false → new.rows ≡ None
   pub some : is_some old.rows ≡ true → is_some new.rows ≡ true
   pub strip : is_some old.rows ≡ true → new.strip ≡ old.strip
-  pub keeping : keeping_of new.file ≡ keeping_of old.file
+  pub keeping : settings_of new.file ≡ settings_of old.file
   pub sparing : keeping_of old.file ≡ copying.None → SparesRows old.rows old.file → SparesRows new.rows new.file
 
 -- All that holds after some bytes, and after a piece, of a file that is read MCU row by MCU row (T.81, A.2.3, B.2.1).
 
 -- SOME BYTES with no current MCU row before them
-pub record TakesPlain (old : StripWork) (run : List ℕ) (n : ℕ) (answer : Step) (new : StripWork) : Type 0 where
+pub record TakesPlain (old : FileSeen) (run : List ℕ) (n : ℕ) (answer : Step) (new : FileSeen) : Type 0 where
   pub begins : CountsRowsOfScan new.rows new.file
   pub known : KnowsSome old run n new
   pub no : IsNoRow answer
@@ -213,23 +215,23 @@ pub record TakesPlain (old : StripWork) (run : List ℕ) (n : ℕ) (answer : Ste
   pub some : old.by_row ≡ false → TakesSome old.file run n answer new.file
 
 -- and with one
-pub record TakesCurrent (old : StripWork) (answer : Step) (new : StripWork) : Type 0 where
+pub record TakesCurrent (old : FileSeen) (answer : Step) (new : FileSeen) : Type 0 where
   pub memory : SparesRows old.rows old.file → HasMemory answer
   pub strip : new.strip ≡ old.strip
   pub head : new.file.head ≡ old.file.head
 
 -- the result of the last one, and what is kept
-pub record TakesBytes (old : StripWork) (run : List ℕ) (n : ℕ) (answer : Step) (new : StripWork) : Type 0 where
+pub record TakesBytes (old : FileSeen) (run : List ℕ) (n : ℕ) (answer : Step) (new : FileSeen) : Type 0 where
   pub after : TakesStrip old run n answer new
   pub rows : CountsStrip answer old.rows new.rows
   pub sparing : keeping_of old.file ≡ copying.None → SparesRows old.rows old.file → SparesRows new.rows new.file
-  pub keeping : keeping_of new.file ≡ keeping_of old.file
+  pub keeping : settings_of new.file ≡ settings_of old.file
   pub by_row : new.by_row ≡ old.by_row
   pub fresh : old.rows ≡ None → TakesPlain old run n answer new
   pub current : is_some old.rows ≡ true → TakesCurrent old answer new
 
 -- A BYTE with no current MCU row before it
-pub record TakesFirst (old : StripWork) (byte : ℕ) (answer : Step) (new : StripWork) : Type 0 where
+pub record TakesFirst (old : FileSeen) (byte : ℕ) (answer : Step) (new : FileSeen) : Type 0 where
   pub begins : CountsRowsOfScan new.rows new.file
   pub known : KnowsByte old byte new
   pub no : IsNoRow answer
@@ -239,19 +241,19 @@ pub record TakesFirst (old : StripWork) (byte : ℕ) (answer : Step) (new : Stri
   pub asks : IfWants answer (old.file.scan ≡ None)
 
 -- its result, and what is kept
-pub record TakesOne (old : StripWork) (byte : ℕ) (answer : Step) (new : StripWork) : Type 0 where
+pub record TakesOne (old : FileSeen) (byte : ℕ) (answer : Step) (new : FileSeen) : Type 0 where
   pub after : (bytes : List ℕ) → StripGoes (limits_of old.file) bytes old.rows old.file → AfterStrip (limits_of old.file) (bytes ++ byte ∷ []) answer new.rows new.file
   pub stops : (bytes : List ℕ) (rows : RowWork) → old.rows ≡ Some rows → GoesByRow (limits_of old.file) bytes old.file rows → StopsRows (limits_of old.file) (bytes ++ byte ∷ []) answer rows
   pub rows : CountsStrip answer old.rows new.rows
   pub sparing : keeping_of old.file ≡ copying.None → SparesRows old.rows old.file → SparesRows new.rows new.file
-  pub keeping : keeping_of new.file ≡ keeping_of old.file
+  pub keeping : settings_of new.file ≡ settings_of old.file
   pub by_row : new.by_row ≡ old.by_row
   pub head : IfStops answer (new.file.head ≡ old.file.head)
   pub fresh : old.rows ≡ None → TakesFirst old byte answer new
   pub current : is_some old.rows ≡ true → TakesCurrent old answer new
 
 -- A SCAN HEADER that is complete, with no current MCU row before it
-pub record TakesFirstHead (old : StripWork) (answer : Step) (new : StripWork) : Type 0 where
+pub record TakesFirstHead (old : FileSeen) (answer : Step) (new : FileSeen) : Type 0 where
   pub after : (bytes : List ℕ) → HasCompleteHeader (limits_of old.file) bytes old.file → AfterStrip (limits_of old.file) bytes answer new.rows new.file
   pub begins : CountsRowsOfScan new.rows new.file
   pub known : KnowsHead old new
@@ -261,8 +263,18 @@ pub record TakesFirstHead (old : StripWork) (answer : Step) (new : StripWork) : 
   pub none : old.by_row ≡ true → old.file.head ≡ None → NoneHead old answer new
   pub sparing : keeping_of old.file ≡ copying.None → SparesRows new.rows new.file
   pub head : IfStops answer (new.file.head ≡ old.file.head)
-  pub keeping : keeping_of new.file ≡ keeping_of old.file
+  pub keeping : settings_of new.file ≡ settings_of old.file
   pub by_row : new.by_row ≡ old.by_row
+
+-- ANOTHER ITEM, with no current MCU row: whatever bytes were given, nothing changes
+pub record PassesFirst (old : FileSeen) (came : Result SegStep Stop) (answer : Step) (new : FileSeen) : Type 0 where
+  pub same : new ≡ old
+  pub after : (before : Option InScan) (limits : Limits) (bytes : List ℕ) → AfterFileStep before limits bytes came old.file → AfterFileByte (before ≡ None) limits bytes answer old.file
+  pub no : IsNoRow answer
+
+abbrev pub TakesFirstItem : FileSeen → Result SegStep Stop → Step → FileSeen → Type 0
+TakesFirstItem old (Ok item.Whole) answer new = TakesFirstHead old answer new
+TakesFirstItem old came answer new = PassesFirst old came answer new
 
 -- A PIECE: no fewer of its bytes than were used complete the MCU row
 abbrev pub LastOfRow : Limits → List ℕ → List ℕ → ℕ → Option RowWork → Type 0
@@ -270,7 +282,7 @@ LastOfRow limits bytes piece used rows = (early : ℕ) → used ≡ early + 1 �
 
 -- THE RESULT, by how many bytes were used, also up to a fault. Where memory is asked for with no current MCU row, it is
 -- between items.
-abbrev pub AfterPiece : Limits → List ℕ → List ℕ → ℕ → Step → Option RowWork → FileWork → Type 0
+abbrev pub AfterPiece : Limits → List ℕ → List ℕ → ℕ → Step → Option RowWork → FileState → Type 0
 AfterPiece limits bytes piece used step.More rows w = RowsGo limits (bytes ++ take used piece) rows w
 AfterPiece limits bytes piece used step.Row rows w = RowsGive limits (bytes ++ take used piece) rows w × LastOfRow limits bytes piece used rows
 AfterPiece limits bytes piece used step.Whole rows w = AfterStrip limits (bytes ++ take used piece) step.Whole rows w × (1 ≤ used)
@@ -280,20 +292,20 @@ AfterPiece limits bytes piece used (step.Ended stop.NoMemory) rows w =
     KeepsHead limits (length bytes) (bytes ++ piece) w.head × (rows ≡ None → AsksForMemory limits (length bytes) (bytes ++ piece) w.head)
 
 -- WHAT IS KNOWN of the MCU rows, of which this many were given before
-abbrev pub KnowsAfter : Limits → List ℕ → ℕ → Step → StripWork → Option RowWork → Type 0
+abbrev pub KnowsAfter : Limits → List ℕ → ℕ → Step → FileSeen → Option RowWork → Type 0
 KnowsAfter limits bytes m step.More w rows = KnowsRows limits bytes m rows w.strip
 KnowsAfter limits bytes m step.Row w rows = KnowsRows limits bytes (m + 1) rows w.strip
 KnowsAfter limits bytes m step.Whole w rows = KnowsRows limits bytes m rows w.strip
 KnowsAfter limits bytes m (step.Ended (stop.Fault f)) w rows = RowsFault limits bytes m w rows
 KnowsAfter limits bytes m (step.Ended stop.NoMemory) w rows = Unit {0}
 
-pub record GivenBefore (limits : Limits) (bytes : List ℕ) (m : ℕ) (w : StripWork) : Type 0 where
+pub record GivenBefore (limits : Limits) (bytes : List ℕ) (m : ℕ) (w : FileSeen) : Type 0 where
   pub stands : RowsOpen limits bytes w.rows w.file
   pub none : w.rows ≡ None → m ≡ 0
   pub known : KnowsRows limits bytes m w.rows w.strip
 
 -- SOME BYTES of a piece, whatever bytes were given before them
-pub record TakesPiece (limits : Limits) (old : StripWork) (piece : List ℕ) (used : ℕ) (answer : Step) (new : StripWork) : Type 0 where
+pub record TakesPiece (limits : Limits) (old : FileSeen) (piece : List ℕ) (used : ℕ) (answer : Step) (new : FileSeen) : Type 0 where
   pub few : used ≤ length piece
   pub after : (bytes : List ℕ) → RowsOpen limits bytes old.rows old.file → AfterPiece limits bytes piece used answer new.rows new.file
   pub keeps : KeepsWork old new
@@ -302,22 +314,22 @@ pub record TakesPiece (limits : Limits) (old : StripWork) (piece : List ℕ) (us
   pub none : (bytes : List ℕ) → RowsOpen limits bytes old.rows old.file → old.by_row ≡ true → NoRowsIn limits bytes old.rows → NoneAfter limits (bytes ++ take used piece) answer new.rows
 
 -- after them more may be taken
-abbrev pub GoesOn : Limits → StripWork → List ℕ → ℕ → StripWork → Type 0
+abbrev pub GoesOn : Limits → FileSeen → List ℕ → ℕ → FileSeen → Type 0
 GoesOn limits old piece used new = TakesPiece limits old piece used step.More new × (new.file.taken < limits.input)
 
 -- THE DATA OF SCANS, of which with so many bytes of the piece no further ones have ended, by the state of the file then
-pub record CountsOn (limits : Limits) (old : FileWork) (piece : List ℕ) (early : ℕ) : Type 0 where
-  pub mid : FileWork
+pub record CountsOn (limits : Limits) (old : FileState) (piece : List ℕ) (early : ℕ) : Type 0 where
+  pub mid : FileState
   pub few : early ≤ length piece
   pub stands : (bytes : List ℕ) → RepresentsFile limits bytes old → RepresentsFile limits (bytes ++ take early piece) mid
   pub same : scans_ended mid ≡ scans_ended old
 
 -- nor have they before the last one of so many bytes
-abbrev pub CountsBefore : Limits → FileWork → List ℕ → ℕ → Type 0
+abbrev pub CountsBefore : Limits → FileState → List ℕ → ℕ → Type 0
 CountsBefore limits old piece used = (early : ℕ) × (used ≡ early + 1) × CountsOn limits old piece early
 
 -- A PIECE up to the next MCU row, or up to the end of a scan's data
-abbrev pub ReadsUpTo : Bool → Limits → StripWork → List ℕ → Result FedRow Stop → StripWork → Type 0
+abbrev pub ReadsUpTo : Bool → Limits → FileSeen → List ℕ → Result FedRow Stop → FileSeen → Type 0
 ReadsUpTo scans limits old piece (Ok fed.More) new = GoesOn limits old piece (length piece) new × (scans ≡ true → scans_ended new.file ≡ scans_ended old.file)
 ReadsUpTo false limits old piece (Ok (fed.Row used)) new = TakesPiece limits old piece used step.Row new
 ReadsUpTo true limits old piece (Ok (fed.Row used)) new =
@@ -326,7 +338,7 @@ ReadsUpTo scans limits old piece (Ok (fed.Done used)) new = TakesPiece limits ol
 ReadsUpTo scans limits old piece (Err e) new =
     (used : ℕ) × TakesPiece limits old piece used (step.Ended e) new × (scans ≡ true → (early : ℕ) × (used ≤ early + 1) × CountsOn limits old.file piece early)
 
-pub record ReadsPiece (scans : Bool) (limits : Limits) (old : StripWork) (piece : List ℕ) (answer : Result FedRow Stop) (new : StripWork) : Type 0 where
+pub record ReadsPiece (scans : Bool) (limits : Limits) (old : FileSeen) (piece : List ℕ) (answer : Result FedRow Stop) (new : FileSeen) : Type 0 where
   pub keeps : KeepsWork old new
   pub read : ReadsUpTo scans limits old piece answer new
 
@@ -546,10 +558,10 @@ EndsDoneRow (Ok (fed.Done used)) r = r.done ≡ true
 EndsDoneRow (Err e) r = r.done ≡ false
 
 -- HOW A PIECE IS READ, whatever it is fed for: what is read of a reader, the reader with that, and after its result
-abbrev pub work_of : ReaderState → StripWork
+abbrev pub work_of : ReaderState → FileSeen
 work_of r = record { file = r.file; by_row = r.in_rows; rows = r.rows; strip = r.strip }
 
-abbrev pub with_work : ReaderState → StripWork → ReaderState
+abbrev pub with_work : ReaderState → FileSeen → ReaderState
 with_work r work = record r { file = work.file; in_rows = work.by_row; rows = work.rows; strip = work.strip }
 
 abbrev pub is_done : Result FedRow Stop → Bool
@@ -565,7 +577,7 @@ after_piece answer r = record r { done = is_done answer; stop = result_err answe
 pub record ReadsInto (scans : Bool) (old : ReaderState) (piece : List ℕ) (answer : Result FedRow Stop) (new : ReaderState) : Type 0 where
   pub reading : IsReading old
   pub undone : old.done ≡ false
-  pub work : StripWork
+  pub work : FileSeen
   pub read : ReadsPiece scans old.limits (work_of old) piece answer work
   pub is : new ≡ after_piece answer (with_work old work)
 

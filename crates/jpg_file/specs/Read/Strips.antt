@@ -1,5 +1,5 @@
 -- Which MCU rows bytes complete, by those that are left (T.81, A.2.3).
-use Rattle.std.specs.Prelude.{◌≡◌, ◌⊎◌, ℕ, ◌+◌, List, Option, Some, None, ◌<◌, ◌≤◌, Bool, false, [], ◌∷◌, ◌++◌, length, take, slice_index, Result, Ok, Err}
+use Rattle.std.specs.Prelude.{◌≡◌, ◌⊎◌, ℕ, ◌+◌, List, Option, Some, None, ◌<◌, ◌≤◌, Bool, false, [], ◌∷◌, ◌++◌, length, take, slice_index, Result, Ok, Err, is_some}
 use Rattle.jpg_spec.specs.Segments.{head_components, ScanHead}
 use Rattle.jpg_spec.specs.Scan.{Blocks}
 use Rattle.jpg_spec.specs.Markers.{Segment, has_scan}
@@ -7,7 +7,7 @@ use Rattle.jpg_spec.specs.InForce.{frame_of, head_in}
 use Rattle.jpg_spec.specs.RowsParsed.{BeginsScanOfAll, CompletesRows, picture_so_far, IsScanOfAll}
 use Rattle.jpg_spec.specs.declared.frame.Limits.{Limits}
 use Rattle.jpg_base.specs.Cursor.{scan_mcus_down}
-use Rattle.jpg_file.specs.Read.InData.{unfinished, InRowData, IsRowIn, IsInsideRow, TookData, scan_left, IsRowAt}
+use Rattle.jpg_file.specs.Read.InData.{unfinished, InRowData, IsRowIn, TookData, scan_left, IsRowAt}
 use Rattle.jpg_file.specs.declared.read.rows.RowWork.{RowWork}
 use Rattle.jpg_spec.specs.Geometry.{Frame, is_progressive}
 use Rattle.jpg_spec.specs.ScanContents.{IsHead}
@@ -16,33 +16,38 @@ use Rattle.jpg_spec.specs.Items.{Item, segments_of, contents_rule}
 use Rattle.jpg_spec.specs.declared.fault.FaultAt.{FaultAt}
 use Rattle.jpg_base.specs.declared.stop.Stop.{Stop}
 use Rattle.jpg_base.specs.declared.stop.Stop.TheVariants as stop
+use Rattle.jpg_markers.specs.declared.segments.SegStep.{SegStep}
 use Rattle.jpg_coefs.specs.Picture.{Picture}
 use Rattle.jpg_markers.specs.Reading.{reading_of}
 use Rattle.jpg_seq.specs.Reader.{IsRowOf}
 use Rattle.jpg_file.specs.Read.SegmentState.{HasBegun, HasBegunAll, Holds, segments_view}
-use Rattle.jpg_file.specs.Read.File.{AfterFileByte, EndsFile, IsStop, HasCompleteHeader, RepresentsFile, IsBetweenFileItems, AfterFileStep, limits_of, with_picture, NeedsNoMemory, waiting_bytes}
-use Rattle.jpg_file.specs.Read.FirstHeader.{HasHead, IsFirstHeaderOf}
-use Rattle.jpg_file.specs.Read.Items.{BehindHead}
-use Rattle.jpg_file.specs.Read.Step.{IfStops, IfWants}
-use Rattle.jpg_file.specs.declared.read.file.FileWork.{FileWork}
+use Rattle.jpg_file.specs.Read.File.{AfterFileByte, EndsFile, IsStop, HasCompleteHeader, RepresentsFile, IsBetweenFileItems, AfterFileStep, limits_of, with_picture, NeedsNoMemory, settings_of, ScanHeld}
+use Rattle.jpg_file.specs.Read.FirstHeader.{IsFirstHeaderOf}
+use Rattle.jpg_file.specs.Read.Step.{IfStops, IfWants, IsNoRow, HasMemory}
+use Rattle.jpg_file.specs.declared.read.file.FileState.{FileState}
 use Rattle.jpg_file.specs.declared.read.first_header.Head.{Head}
-use Rattle.jpg_file.specs.declared.read.items.ItemStep.{ItemStep}
 use Rattle.jpg_file.specs.declared.read.scan.InScan.{InScan}
-use Rattle.jpg_file.specs.declared.read.strip_work.StripWork.{StripWork}
 use Rattle.jpg_file.specs.declared.read.step.Step.{Step}
 use Rattle.jpg_file.specs.declared.read.step.Step.TheVariants as step
-use Rattle.jpg_spec.specs.Bits.{bits_of_bytes}
 use Rattle.jpg_spec.specs.declared.fault.Fault.{Fault}
-use Rattle.jpg_coefs.specs.Machine.{TakesBits, Chain}
 use Rattle.jpg_coefs.specs.declared.machine.Taken.{Taken}
-use Rattle.jpg_coefs.specs.declared.machine.Taken.TheVariants as taken
-use Rattle.jpg_coefs.specs.declared.machine.UnitFault.{UnitFault}
-use Rattle.jpg_file.specs.Read.Machine.{any_scan, IsOpenRowScan, BlocksKind}
+use Rattle.jpg_file.specs.Read.Window.{CountsRow, StopsRowData, rows_in}
 use Rattle.jpg_file.specs.declared.read.machine.ScanReader.{ScanReader}
 use Rattle.jpg_spec.specs.Meaning.{Meaning}
 use Rattle.jpg_spec.specs.FileMeaning.{meaning_of}
 use Rattle.jpg_file.specs.Read.PictureKept.{IsHeadOfPicture}
 use Rattle.jpg_file.specs.declared.read.strip_head.StripHead.{StripHead}
+
+-- WHAT CONTRACTS SEE of a file that is read: whether it is read MCU row by MCU row, the current MCU row, and the head of
+-- its picture, once there is one
+pub record FileSeen : Type 0 where
+  pub file : FileState
+  pub by_row : Bool
+  pub rows : Option RowWork
+  pub strip : Option StripHead
+
+abbrev pub seen_of : FileState → FileSeen
+seen_of w = record { file = w; by_row = w.by_row; rows = rows_in w.window; strip = w.strip }
 
 -- BYTES complete as many MCU rows of such a scan as aren't among those that are left, the first of which is the current
 -- one.
@@ -62,7 +67,7 @@ abbrev pub LacksRow : Limits → List ℕ → Option RowWork → Type 0
 LacksRow limits bytes None = Unit {0}
 LacksRow limits bytes (Some after) = (rows : RowWork) × (unfinished rows ≡ unfinished after + 1) × RowsSoFar limits bytes rows
 
--- FileWork a file MCU row by MCU row, when its first scan has all components (T.81, A.2.3, B.2.1).
+-- A file that is read MCU row by MCU row, when its first scan has all components (T.81, A.2.3, B.2.1).
 
 -- the frame before a scan, and the components of the scan
 abbrev pub frame_behind : Limits → List Item → Frame
@@ -76,62 +81,53 @@ pub record IsFirstScan (limits : Limits) (items : List Item) : Type 0 where
   pub first : has_scan (segments_of items) ≡ false
   pub sequential : is_progressive (frame_behind limits items).process ≡ false
 
--- INSIDE THE SCAN of this header after these items: the state in addition to its data
-pub record ScanHeld (limits : Limits) (items : List Item) (contents bytes : List ℕ) (w : FileWork) (gate : Bool) : Type 0 where
-  pub head : BehindHead limits items contents w.items
-  pub count : w.taken ≡ length bytes
-  pub behind : (reading_of (w.items).segments).taken + waiting_bytes gate ≤ w.taken
-  pub begun : HasBegun limits w.begun ((0xda, contents) ∷ segments_of items)
-  pub within : length bytes ≤ limits.input
-  pub first_head : HasHead limits bytes ((0xda, contents) ∷ segments_of items) w.head
-  pub of : IsFirstScan limits items
-  pub all : HasBegunAll w.begun.progress
-
 -- some bits of the last byte may wait
-pub record RowsInside (limits : Limits) (bytes : List ℕ) (w : FileWork) (rows : RowWork) (whole : Picture) : Type 0 where
+pub record RowsInside (limits : Limits) (bytes : List ℕ) (w : FileState) (rows : RowWork) (whole : Picture) : Type 0 where
   pub items : List Item
   pub contents : List ℕ
   pub scan : InScan
   pub inside : w.scan ≡ Some scan
   pub coded : InRowData limits items contents bytes rows.waiting scan whole
   pub held : ScanHeld limits items contents bytes w scan.gate
+  pub of : IsFirstScan limits items
+  pub all : HasBegunAll w.begun.progress
   pub at : IsRowIn (frame_behind limits items) (components_of limits items contents) rows (scan_left scan)
 
 -- AFTER IT, when all its rows are complete
-pub record RowsAfter (limits : Limits) (bytes : List ℕ) (w : FileWork) (rows : RowWork) (whole : Picture) : Type 0 where
+pub record RowsAfter (limits : Limits) (bytes : List ℕ) (w : FileState) (rows : RowWork) (whole : Picture) : Type 0 where
   pub between : IsBetweenFileItems limits bytes (with_picture w whole)
   pub none : rows.waiting ≡ []
   pub all : HasBegunAll w.begun.progress
   pub done : unfinished rows ≡ 0
 
 -- The bytes are a file so far. There is a picture of which these blocks are an MCU row.
-pub record RepresentsRows (limits : Limits) (bytes : List ℕ) (w : FileWork) (rows : RowWork) : Type 0 where
+pub record RepresentsRows (limits : Limits) (bytes : List ℕ) (w : FileState) (rows : RowWork) : Type 0 where
   pub whole : Picture
   pub row : IsRowOf rows.tops whole rows.coefs
   pub at : RowsInside limits bytes w rows whole ⊎ RowsAfter limits bytes w rows whole
 
 -- no bits wait, and units of a row are left if any of the scan are
-pub record GoesByRow (limits : Limits) (bytes : List ℕ) (w : FileWork) (rows : RowWork) : Type 0 where
+pub record GoesByRow (limits : Limits) (bytes : List ℕ) (w : FileState) (rows : RowWork) : Type 0 where
   pub stands : RepresentsRows limits bytes w rows
   pub none : rows.waiting ≡ []
   pub turned : (scan : InScan) → w.scan ≡ Some scan → 1 ≤ scan_left scan → 1 ≤ rows.left
 
 -- an MCU row is complete, and bits may wait
-pub record RowIsWhole (limits : Limits) (bytes : List ℕ) (w : FileWork) (rows : RowWork) : Type 0 where
+pub record RowIsWhole (limits : Limits) (bytes : List ℕ) (w : FileState) (rows : RowWork) : Type 0 where
   pub whole : Picture
   pub row : IsRowOf rows.tops whole rows.coefs
   pub inside : RowsInside limits bytes w rows whole
   pub left : rows.left ≡ 0
 
 -- the file is complete
-pub record EndsByRow (limits : Limits) (bytes : List ℕ) (w : FileWork) (rows : RowWork) : Type 0 where
+pub record EndsByRow (limits : Limits) (bytes : List ℕ) (w : FileState) (rows : RowWork) : Type 0 where
   pub whole : Picture
   pub row : IsRowOf rows.tops whole rows.coefs
   pub ends : EndsFile limits bytes (with_picture w whole)
   pub done : unfinished rows ≡ 0
 
 -- THE RESULT OF BYTES
-abbrev pub AfterRows : Limits → List ℕ → Step → FileWork → RowWork → Type 0
+abbrev pub AfterRows : Limits → List ℕ → Step → FileState → RowWork → Type 0
 AfterRows limits bytes step.More w rows = GoesByRow limits bytes w rows
 AfterRows limits bytes step.Row w rows = RowIsWhole limits bytes w rows
 AfterRows limits bytes step.Whole w rows = EndsByRow limits bytes w rows
@@ -162,19 +158,14 @@ abbrev pub StopsRows : Limits → List ℕ → Step → RowWork → Type 0
 StopsRows limits bytes answer rows = (f : FaultAt) → answer ≡ step.Ended (stop.Fault f) → RowsSoFar limits bytes rows
 
 -- bits that wait, whatever bytes were given
-abbrev pub TakesRest : FileWork → RowWork → Step → FileWork → RowWork → Type 0
+abbrev pub TakesRest : FileState → RowWork → Step → FileState → RowWork → Type 0
 TakesRest old rows answer new after =
     (bytes : List ℕ) → RepresentsRows (limits_of old) bytes old rows → AfterRows (limits_of old) bytes answer new after × StopsRows (limits_of old) bytes answer rows
 
--- a byte
-abbrev pub TakesRowByte : FileWork → RowWork → ℕ → Step → FileWork → RowWork → Type 0
-TakesRowByte old rows byte answer new after =
-    (bytes : List ℕ) → GoesByRow (limits_of old) bytes old rows → AfterRows (limits_of old) (bytes ++ byte ∷ []) answer new after × StopsRows (limits_of old) (bytes ++ byte ∷ []) answer rows
-
 -- some bytes of which the last one may be taken in part: the file's state before that one, with the same MCU rows
 -- complete, and its result
-pub record RowsRun (limits : Limits) (bytes run : List ℕ) (n : ℕ) (answer : Step) (rows : RowWork) (new : FileWork) (after : RowWork) : Type 0 where
-  pub mid : FileWork
+pub record RowsRun (limits : Limits) (bytes run : List ℕ) (n : ℕ) (answer : Step) (rows : RowWork) (new : FileState) (after : RowWork) : Type 0 where
+  pub mid : FileState
   pub early : ℕ
   pub count : n ≡ early + 1
   pub within : early < length run
@@ -185,23 +176,27 @@ pub record RowsRun (limits : Limits) (bytes run : List ℕ) (n : ℕ) (answer : 
   pub last : AfterRows limits ((bytes ++ take early run) ++ slice_index run early ∷ []) answer new after
   pub stops : StopsRows limits (bytes ++ take n run) answer rows
 
-abbrev pub TakesRunOfRows : FileWork → RowWork → List ℕ → ℕ → Step → FileWork → RowWork → Type 0
-TakesRunOfRows old rows run n answer new after =
-    (bytes : List ℕ) → GoesByRow (limits_of old) bytes old rows → RowsRun (limits_of old) bytes run n answer rows new after
-
 -- AFTER THE SCAN: an item, whatever picture there is, and a complete scan header
-abbrev pub PassesItem : FileWork → ItemStep → Step → Type 0
+abbrev pub PassesItem : FileState → Result SegStep Stop → Step → Type 0
 PassesItem w came answer =
     (limits : Limits) (before : Option InScan) (bytes : List ℕ) (whole : Picture) (rows : RowWork) → AfterFileStep before limits bytes came (with_picture w whole) → w.scan ≡ None → IsRowOf rows.tops whole rows.coefs → rows.waiting ≡ []
     → HasBegunAll w.begun.progress → unfinished rows ≡ 0 → AfterRows limits bytes answer w rows
 
-abbrev pub PassesLaterHead : FileWork → Step → Type 0
-PassesLaterHead w answer =
-    (limits : Limits) (bytes : List ℕ) (whole : Picture) (rows : RowWork) → HasCompleteHeader limits bytes (with_picture w whole) → AfterRows limits bytes answer w rows
-
 -- There is a complete scan header, and all components were in a scan before it.
-abbrev pub HasLaterHead : FileWork → Type 0
+abbrev pub HasLaterHead : FileState → Type 0
 HasLaterHead w = (limits : Limits) × (bytes : List ℕ) × (whole : Picture) × HasCompleteHeader limits bytes (with_picture w whole) × HasBegunAll w.begun.progress
+
+-- or the first one, if there is no current MCU row
+abbrev pub HasHeader : Option RowWork → FileState → Type 0
+HasHeader None w = (bytes : List ℕ) × HasCompleteHeader (limits_of w) bytes w
+HasHeader (Some rows) w = HasLaterHead w
+
+-- NOTHING CHANGES after the scan, whatever item it is.
+pub record PassesLater (old : FileState) (came : Result SegStep Stop) (answer : Step) (new : FileState) : Type 0 where
+  pub same : new ≡ old
+  pub passes : PassesItem old came answer
+  pub memory : (came ≡ Err stop.NoMemory → ⊥) → HasMemory answer
+  pub no : IsNoRow answer
 
 -- THE FIRST SCAN HEADER, which is complete: of a sequential frame and of all its components
 pub record IsHeadOfAll (limits : Limits) (items : List Item) (contents : List ℕ) (f : Frame) (head : ScanHead) : Type 0 where
@@ -211,27 +206,19 @@ pub record IsHeadOfAll (limits : Limits) (items : List Item) (contents : List �
   pub sequential : is_progressive f.process ≡ false
   pub all : length head.parts ≡ length f.components
 
-abbrev pub contents_held : FileWork → List ℕ
+abbrev pub contents_held : FileState → List ℕ
 contents_held w = (reading_of w.items.segments).contents
 
 -- whatever bytes were given, these are its frame and its contents
-abbrev pub FindsHead : FileWork → Option (Frame × ScanHead) → Type 0
+abbrev pub FindsHead : FileState → Option (Frame × ScanHead) → Type 0
 FindsHead w None = Unit {0}
 FindsHead w (Some x) = (limits : Limits) (bytes : List ℕ) → (h : HasCompleteHeader limits bytes w) → IsHeadOfAll limits h.items (contents_held w) x.0 x.1
 
--- there are such bytes
-abbrev pub HasHeadOfAll : FileWork → Frame → ScanHead → Type 0
-HasHeadOfAll w f head = (bytes : List ℕ) × (h : HasCompleteHeader (limits_of w) bytes w) × IsHeadOfAll (limits_of w) h.items (contents_held w) f head
-
 -- its scan begins
-abbrev pub AfterScanBegins : Limits → List ℕ → Result RowWork Stop → FileWork → Type 0
+abbrev pub AfterScanBegins : Limits → List ℕ → Result RowWork Stop → FileState → Type 0
 AfterScanBegins limits bytes (Ok rows) w = GoesByRow limits bytes w rows
 AfterScanBegins limits bytes (Err (stop.Fault f)) w = IsStop limits bytes f
 AfterScanBegins limits bytes (Err stop.NoMemory) w = Unit {0}
-
-abbrev pub BeginsRows : FileWork → Frame → ScanHead → Result RowWork Stop → FileWork → Type 0
-BeginsRows old f head answer new =
-    (bytes : List ℕ) → (h : HasCompleteHeader (limits_of old) bytes old) → IsHeadOfAll (limits_of old) h.items (contents_held old) f head → AfterScanBegins (limits_of old) bytes answer new
 
 -- ALL STATES: with a current MCU row, or without one
 
@@ -242,37 +229,37 @@ CountsStrip answer (Some rows) None = ⊥
 CountsStrip answer (Some rows) (Some after) = CountsRows answer rows after
 
 -- with a current row NoMemory isn't returned for what follows
-abbrev pub SparesRows : Option RowWork → FileWork → Type 0
+abbrev pub SparesRows : Option RowWork → FileState → Type 0
 SparesRows None w = Unit {0}
 SparesRows (Some rows) w = NeedsNoMemory w
 
 -- with none before: no row of the scan is complete, and the header that is kept has its frame
-abbrev pub CountsRowsOfScan : Option RowWork → FileWork → Type 0
+abbrev pub CountsRowsOfScan : Option RowWork → FileState → Type 0
 CountsRowsOfScan None w = Unit {0}
 CountsRowsOfScan (Some rows) w = (head : Head) → w.head ≡ Some head → unfinished rows ≡ rows_of_all head.frame
 
-abbrev pub RepresentsStrip : Limits → List ℕ → Option RowWork → FileWork → Type 0
+abbrev pub RepresentsStrip : Limits → List ℕ → Option RowWork → FileState → Type 0
 RepresentsStrip limits bytes None w = RepresentsFile limits bytes w
 RepresentsStrip limits bytes (Some rows) w = RepresentsRows limits bytes w rows
 
 -- bytes may be taken
-abbrev pub StripGoes : Limits → List ℕ → Option RowWork → FileWork → Type 0
+abbrev pub StripGoes : Limits → List ℕ → Option RowWork → FileState → Type 0
 StripGoes limits bytes None w = RepresentsFile limits bytes w
 StripGoes limits bytes (Some rows) w = GoesByRow limits bytes w rows
 
 -- for a file that isn't read by MCU rows the result of a byte
-abbrev pub AfterStrip : Limits → List ℕ → Step → Option RowWork → FileWork → Type 0
+abbrev pub AfterStrip : Limits → List ℕ → Step → Option RowWork → FileState → Type 0
 AfterStrip limits bytes answer None w = AfterFileByte (Unit {0}) limits bytes answer w
 AfterStrip limits bytes answer (Some rows) w = AfterRows limits bytes answer w rows
 
-abbrev pub TakesResumed : StripWork → Step → StripWork → Type 0
+abbrev pub TakesResumed : FileSeen → Step → FileSeen → Type 0
 TakesResumed old answer new =
     (bytes : List ℕ) → RepresentsStrip (limits_of old.file) bytes old.rows old.file → AfterStrip (limits_of old.file) bytes answer new.rows new.file
 
 -- some bytes: the file's state before the last of those that were taken, with the same MCU rows complete, and the
 -- result of that one; without a current row it asks for memory only between items
-pub record StripRun (limits : Limits) (bytes run : List ℕ) (n : ℕ) (answer : Step) (old rows : Option RowWork) (new : FileWork) : Type 0 where
-  pub mid : FileWork
+pub record StripRun (limits : Limits) (bytes run : List ℕ) (n : ℕ) (answer : Step) (old rows : Option RowWork) (new : FileState) : Type 0 where
+  pub mid : FileState
   pub early : ℕ
   pub count : n ≡ early + 1
   pub within : early < length run
@@ -283,60 +270,9 @@ pub record StripRun (limits : Limits) (bytes run : List ℕ) (n : ℕ) (answer :
   pub current : (rows : RowWork) → old ≡ Some rows → RowsSoFar limits (bytes ++ take early run) rows × StopsRows limits (bytes ++ take n run) answer rows
   pub last : AfterStrip limits ((bytes ++ take early run) ++ slice_index run early ∷ []) answer rows new
 
-abbrev pub TakesStrip : StripWork → List ℕ → ℕ → Step → StripWork → Type 0
+abbrev pub TakesStrip : FileSeen → List ℕ → ℕ → Step → FileSeen → Type 0
 TakesStrip old run n answer new =
     (bytes : List ℕ) → StripGoes (limits_of old.file) bytes old.rows old.file → StripRun (limits_of old.file) bytes run n answer old.rows new.rows new.file
-
--- What is known of bits and of plain bytes that a machine takes into the blocks of the current MCU row: how many of its
--- units are left, and that it isn't complete before a fault, nor before the last byte (T.81, A.2.3, F.2.2).
-
--- BITS, some first ones of which reveal a fault, before this many further units are complete
-abbrev pub ShowsInRow : ℕ → ScanReader → Picture → List Bool → UnitFault → Type 0
-ShowsInRow most m now bits f = (new : ScanReader) × (after : Picture) × (rest : List Bool) × TakesBits any_scan most m now bits (taken.Fault f) new after rest
-
--- THE CURRENT MCU ROW isn't complete before the fault, whatever picture it is of.
-abbrev pub StopsRowData : RowWork → ScanReader → List Bool → Taken → Type 0
-StopsRowData w m bits came_to = (f : UnitFault) (whole : Picture) → came_to ≡ taken.Fault f → IsRowOf w.tops whole w.coefs → IsOpenRowScan m whole → ShowsInRow w.left m whole bits f
-
-abbrev pub StopsRowRun : RowWork → ScanReader → List ℕ → ℕ → Taken → Type 0
-StopsRowRun w m bytes n came_to = StopsRowData w m (bits_of_bytes (take n bytes)) came_to
-
--- this many of its units are complete; only if none is left, bits wait
-pub record CountsRow (w : RowWork) (m : ScanReader) (answer : Taken) (new : RowWork) (after : ScanReader) : Type 0 where
-  pub same : new ≡ record w { coefs = new.coefs; left = new.left; waiting = new.waiting }
-  pub passed : ℕ
-  pub left : w.left ≡ new.left + passed
-  pub interval : any_scan.left m ≡ any_scan.left after + passed
-  pub ended : answer ≡ taken.IntervalDone → any_scan.left after ≡ 0
-  pub wait : 1 ≤ length new.waiting → new.left ≡ 0
-
--- BITS: those of the bytes before the last one, and then further ones, after all of which fewer than `most` units are
--- complete
-pub record FewBefore (most : ℕ) (m : ScanReader) (now : Picture) (bytes : List ℕ) (n : ℕ) : Type 0 where
-  pub early : ℕ
-  pub count : n ≡ early + 1
-  pub within : early < length bytes
-  pub mid : ScanReader
-  pub between : Picture
-  pub chain : Chain any_scan m now (bits_of_bytes (take early bytes)) mid between
-  pub more : List Bool
-  pub far : ScanReader
-  pub later : Picture
-  pub on : Chain any_scan mid between more far later
-  pub few : any_scan.left m < any_scan.left far + most
-
--- whatever picture the row is of
-abbrev pub LastRowRun : RowWork → ScanReader → List ℕ → ℕ → Type 0
-LastRowRun w m bytes n = (whole : Picture) → IsRowOf w.tops whole w.coefs → IsOpenRowScan m whole → FewBefore w.left m whole bytes n
-
--- THE BLOCKS of the current MCU row, as those that a scan is read into
-abbrev pub row_stored : BlocksKind RowWork
-row_stored = record {
-  shows = λ w whole. IsRowOf w.tops whole w.coefs;
-  waiting = λ w. w.waiting;
-  fits = λ w m. IsInsideRow w m × (1 ≤ w.left);
-  bytes = λ w m bytes n answer new after. StopsRowRun w m bytes n answer × LastRowRun w m bytes n × CountsRow w m answer new after;
-}
 
 -- bits that waited
 abbrev pub PassesRowBits : RowWork → ScanReader → List Bool → Taken → RowWork → ScanReader → Type 0
@@ -361,7 +297,7 @@ TellsStrip None f picture = ⊥
 TellsStrip (Some h) f picture = (h.frame ≡ f) × ((blocks : Blocks) → IsHeadOfPicture h (picture blocks))
 
 -- a reader after these segments, the last of which is the header of a scan of all components
-pub record HoldsScan (limits : Limits) (before : List Segment) (w : FileWork) : Type 0 where
+pub record HoldsScan (limits : Limits) (before : List Segment) (w : FileState) : Type 0 where
   pub holds : Holds limits (segments_view w.items.held) before
   pub begun : HasBegun limits w.begun before
   pub all : HasBegunAll w.begun.progress
@@ -369,17 +305,13 @@ pub record HoldsScan (limits : Limits) (before : List Segment) (w : FileWork) : 
   pub has : w.items.held.frame ≡ Some frame
 
 -- whatever segments these are, this is the head of the picture
-abbrev pub TellsScan : FileWork → StripHead → Type 0
+abbrev pub TellsScan : FileState → StripHead → Type 0
 TellsScan w h = (limits : Limits) (before : List Segment) → HoldsScan limits before w → (h.frame ≡ frame_of limits before) × ((blocks : Blocks) → IsHeadOfPicture h (meaning_of (frame_of limits before) before blocks))
 
 -- WHERE IT BEGINS
-pub record BeginsAll (limits : Limits) (bytes : List ℕ) (before : List Segment) (contents : List ℕ) (w : FileWork) : Type 0 where
+pub record BeginsAll (limits : Limits) (bytes : List ℕ) (before : List Segment) (contents : List ℕ) (w : FileState) : Type 0 where
   pub begins : BeginsScanOfAll limits bytes before contents
   pub holds : HoldsScan limits ((0xda, contents) ∷ before) w
-
-abbrev pub BeginsTold : FileWork → Frame → ScanHead → FileWork → Type 0
-BeginsTold old f head new =
-    (bytes : List ℕ) → (h : HasCompleteHeader (limits_of old) bytes old) → IsHeadOfAll (limits_of old) h.items (contents_held old) f head → BeginsAll (limits_of old) bytes (segments_of h.items) (contents_held old) new
 
 -- WITH A CURRENT MCU ROW: this many were given since the scan began
 pub record RowsKnown (limits : Limits) (bytes : List ℕ) (m : ℕ) (rows : RowWork) (strip : Option StripHead) : Type 0 where
@@ -394,13 +326,13 @@ KnowsRows limits bytes m None strip = Unit {0}
 KnowsRows limits bytes m (Some rows) strip = RowsKnown limits bytes m rows strip
 
 -- with none before
-abbrev pub KnowsHead : StripWork → StripWork → Type 0
+abbrev pub KnowsHead : FileSeen → FileSeen → Type 0
 KnowsHead old new = (bytes : List ℕ) → HasCompleteHeader (limits_of old.file) bytes old.file → KnowsRows (limits_of old.file) bytes 0 new.rows new.strip
 
-abbrev pub KnowsByte : StripWork → ℕ → StripWork → Type 0
+abbrev pub KnowsByte : FileSeen → ℕ → FileSeen → Type 0
 KnowsByte old byte new = (bytes : List ℕ) → RepresentsFile (limits_of old.file) bytes old.file → KnowsRows (limits_of old.file) (bytes ++ byte ∷ []) 0 new.rows new.strip
 
-abbrev pub KnowsSome : StripWork → List ℕ → ℕ → StripWork → Type 0
+abbrev pub KnowsSome : FileSeen → List ℕ → ℕ → FileSeen → Type 0
 KnowsSome old run n new = (bytes : List ℕ) → RepresentsFile (limits_of old.file) bytes old.file → KnowsRows (limits_of old.file) (bytes ++ take n run) 0 new.rows new.strip
 
 -- Bytes in which no scan of all components begins, after which there is no current MCU row (T.81, A.2.3, B.2.1).
@@ -415,7 +347,7 @@ NoRowsIn limits bytes None = HasNoRows limits bytes
 NoRowsIn limits bytes (Some rows) = Unit {0}
 
 -- THE SCAN HEADER that is complete isn't of such a scan, whatever bytes were given.
-abbrev pub FindsNone : FileWork → Option (Frame × ScanHead) → Type 0
+abbrev pub FindsNone : FileState → Option (Frame × ScanHead) → Type 0
 FindsNone w (Some x) = Unit {0}
 FindsNone w None =
     (limits : Limits) (bytes : List ℕ) → (h : HasCompleteHeader limits bytes w) → contents_rule limits (segments_of h.items) 0xda (contents_held w) ≡ None → IsScanOfAll limits (segments_of h.items) (contents_held w) → ⊥
@@ -429,17 +361,17 @@ NoneAfter limits bytes (step.Ended (stop.Fault f)) rows = NoRowsIn limits bytes 
 NoneAfter limits bytes (step.Ended stop.NoMemory) rows = Unit {0}
 
 -- the first scan header, with this last byte
-abbrev pub NoneHead : StripWork → Step → StripWork → Type 0
+abbrev pub NoneHead : FileSeen → Step → FileSeen → Type 0
 NoneHead old answer new =
     (front : List ℕ) (byte : ℕ) → HasNoRows (limits_of old.file) front → HasCompleteHeader (limits_of old.file) (front ++ byte ∷ []) old.file → NoneAfter (limits_of old.file) (front ++ byte ∷ []) answer new.rows
 
 -- a byte
-abbrev pub NoneByte : StripWork → ℕ → Step → StripWork → Type 0
+abbrev pub NoneByte : FileSeen → ℕ → Step → FileSeen → Type 0
 NoneByte old byte answer new =
     (bytes : List ℕ) → RepresentsFile (limits_of old.file) bytes old.file → HasNoRows (limits_of old.file) bytes → NoneAfter (limits_of old.file) (bytes ++ byte ∷ []) answer new.rows
 
 -- some bytes
-abbrev pub NoneSome : StripWork → List ℕ → ℕ → Step → StripWork → Type 0
+abbrev pub NoneSome : FileSeen → List ℕ → ℕ → Step → FileSeen → Type 0
 NoneSome old run n answer new =
     (bytes : List ℕ) → RepresentsFile (limits_of old.file) bytes old.file → HasNoRows (limits_of old.file) bytes → NoneAfter (limits_of old.file) (bytes ++ take n run) answer new.rows
 
@@ -447,18 +379,33 @@ NoneSome old run n answer new =
 -- (T.81, A.2.3, B.2.1).
 
 -- BITS that waited, with a current MCU row before
-abbrev pub FaultsResumed : StripWork → Step → Type 0
+abbrev pub FaultsResumed : FileSeen → Step → Type 0
 FaultsResumed old answer =
     (rows : RowWork) (f : FaultAt) (bytes : List ℕ) → old.rows ≡ Some rows → answer ≡ step.Ended (stop.Fault f) → RepresentsRows (limits_of old.file) bytes old.file rows → RowsSoFar (limits_of old.file) bytes rows
 
+-- ALL THAT HOLDS after the bits that waited
+pub record Resumed (old : FileSeen) (answer : Step) (new : FileSeen) : Type 0 where
+  pub after : TakesResumed old answer new
+  pub goes : GoesOnRest answer
+  pub plain : is_some old.rows ≡ false → (answer ≡ step.More) × (new ≡ old)
+  pub stays : is_some new.rows ≡ is_some old.rows
+  pub rows : CountsStrip answer old.rows new.rows
+  pub memory : HasMemory answer
+  pub strip : new.strip ≡ old.strip
+  pub by_row : new.by_row ≡ old.by_row
+  pub sparing : SparesRows old.rows old.file → SparesRows new.rows new.file
+  pub head : new.file.head ≡ old.file.head
+  pub keeping : settings_of new.file ≡ settings_of old.file
+  pub faults : FaultsResumed old answer
+
 -- A PIECE, of which the current MCU row before the fault is known, with the header of the scan
-pub record BeganAtFault (limits : Limits) (all : List ℕ) (m : ℕ) (strip : Option StripHead) (w : FileWork) : Type 0 where
+pub record BeganAtFault (limits : Limits) (all : List ℕ) (m : ℕ) (strip : Option StripHead) (w : FileState) : Type 0 where
   pub mid : RowWork
   pub known : RowsKnown limits all m mid strip
   pub rows : RowsSoFar limits all mid
   pub head : IsFirstHeaderOf limits all w.head
 
 -- if there is one after it
-abbrev pub RowsFault : Limits → List ℕ → ℕ → StripWork → Option RowWork → Type 0
+abbrev pub RowsFault : Limits → List ℕ → ℕ → FileSeen → Option RowWork → Type 0
 RowsFault limits all m new None = Unit {0}
 RowsFault limits all m new (Some after) = BeganAtFault limits all m new.strip new.file

@@ -1,45 +1,46 @@
 //! A file, read byte by byte, or MCU row by MCU row if its first scan has all components (T.81, A.2.3, B.2.1).
-ghost use Rattle.std.specs.Prelude.{◌≡◌, ◌<◌, ◌≤◌, ◌+◌, ℕ, List, [], drop, length, slice_index, Option, Some, None, Ok, IfErr, IfOk, if◌then◌else◌, true};
+ghost use Rattle.std.specs.Prelude.{◌≡◌, ◌<◌, ◌≤◌, ◌+◌, ℕ, List, [], drop, length, slice_index, Option, Some, None, Ok, if◌then◌else◌, false, take, true};
 ghost use Rattle.jpg_spec.specs.FrameHeader.{AreLimits};
-ghost use Rattle.jpg_spec.specs.Segments.{head_components};
-ghost use Rattle.jpg_spec.specs.declared.frame.Copying.TheVariants as copying;
-ghost use Rattle.jpg_base.specs.Cursor.{scan_mcus_down};
 ghost use Rattle.jpg_base.specs.declared.stop.Stop.TheVariants as stop;
 ghost use Rattle.jpg_coefs.specs.Picture.{Picture};
 ghost use Rattle.jpg_file.specs.Read.ScanStart.{HasSizes};
-ghost use Rattle.jpg_file.specs.Read.File.{CanBeginHead, HasPlain, IsPlainRun, LeavesAll, NeedsNoMemory, TakesHead, with_coefs, HasCompleteHeader, NotesHead, RoomMade, RepresentsFile, TakesFileEnd, TakesFileHead, TakesFileStep, TakesSome, keeping_of, limits_of, scans_ended};
+ghost use Rattle.jpg_file.specs.Read.File.{CanBeginHead, HasPlain, IsPlainRun, KeepsFile, LeavesAll, NeedsNoMemory, TakesHead, HasCompleteHeader, NotesHead, RoomMade, RepresentsFile, TakesFileEnd, TakesFileHead, keeping_of, limits_of, scans_ended, settings_of, with_picture};
 ghost use Rattle.jpg_file.specs.Read.Going.{CanGoOn, GoesOn, file_with};
+ghost use Rattle.jpg_file.specs.Read.InData.{completes_row};
 ghost use Rattle.jpg_file.specs.Read.Passing.{HasNoneToPass, PassesAll, PassesFront};
+ghost use Rattle.jpg_file.specs.Read.ReadFile.{TakesBytes, TakesFirstHead, TakesFirstItem, TakesOne};
 ghost use Rattle.jpg_file.specs.Read.Step.{IfStops, IsNoRow, HasMemory};
-ghost use Rattle.jpg_file.specs.Read.Strips.{BeginsRows, CountsRowsOfScan, CountsRows, FindsHead, GoesByRow, GoesOnRest, HasHeadOfAll, HasLaterHead, PassesItem, PassesLaterHead, RepresentsRows, TakesRest, TakesRowByte, TakesRunOfRows, FindsNone, BeginsTold};
-ghost use Rattle.jpg_file.specs.Read.InData.{completes_row, unfinished};
+ghost use Rattle.jpg_file.specs.Read.Strips.{CountsRows, FindsHead, FindsNone, HasHeader, HasLaterHead, PassesLater, RepresentsStrip, Resumed, StripGoes, seen_of};
+ghost use Rattle.jpg_file.specs.Read.Window.{rows_in};
 
 use crate::read::first_header::{Head, head_of};
-use crate::read::items::{ItemStep, Items};
+use crate::read::items::Items;
 use crate::read::orders::Orders;
 use crate::read::rows::RowWork;
 use crate::read::scan::InScan;
 use crate::read::scan_history::ScanHistory;
 use crate::read::scan_start::{begin_data, judge_head};
 use crate::read::step::Step;
+use crate::read::strip_head::{StripHead, strip_of};
+use crate::read::window::Window;
 use jpg_base::{Frame, Limits, NoMemory, ScanHead, Stop};
-use jpg_coefs::Coefs;
-use jpg_markers::fill_length;
+use jpg_markers::{SegStep, fill_length};
 use jpg_spec::{Copying, Fault, FaultAt};
 use memchr::memchr;
 use std::alloc::Global;
 
-/// The state of a file that is read.
+/// The state of a file that is read: of its items, of the window that its blocks are kept in, and of the current scan. With
+/// `by_row`, blocks are kept one MCU row at a time, if its first scan is a sequential one of all components.
 #[derive(Drop)]
-pub struct FileWork {
+pub struct FileState {
     /// Where memory comes from.
     pub alloc: Global,
     /// The orders in which blocks are stored.
     pub orders: Orders,
     /// Its items so far.
     pub items: Items,
-    /// The coefficients, from the first scan on.
-    pub coefs: Option<Coefs>,
+    /// The blocks, from the first scan on.
+    pub window: Window,
     /// The current scan, inside its data.
     pub scan: Option<InScan>,
     /// How many bytes were taken.
@@ -48,30 +49,85 @@ pub struct FileWork {
     pub begun: ScanHistory,
     /// What its first scan header determines, once there is one.
     pub head: Option<Head>,
+    /// It is to be read MCU row by MCU row.
+    pub by_row: bool,
+    /// The head of its picture, once there is an MCU row.
+    pub strip: Option<StripHead>,
 }
 
-impl FileWork {
-    /// A file before any byte, with the markers that are to be kept, and the orders in which blocks are stored. It takes
-    /// no memory yet.
-    pub fn new(alloc: Global, limits: Limits, keeping: Copying, orders: Orders) -> FileWork
+impl FileState {
+    /// A file before any byte, with the markers that are to be kept, the orders in which blocks are stored, and whether it
+    /// is to be read MCU row by MCU row. It takes no memory yet.
+    pub fn new(
+        alloc: Global,
+        limits: Limits,
+        keeping: Copying,
+        orders: Orders,
+        by_row: bool,
+    ) -> FileState
         requires { AreLimits limits }
         ensures stands { RepresentsFile limits [] result }
         ensures keeping { keeping_of result ≡ keeping }
+        ensures limits { limits_of result ≡ limits }
+        ensures none { rows_in result.window ≡ None }
+        ensures by_row { result.by_row ≡ by_row }
     {
-        FileWork {
+        FileState {
             alloc,
             orders,
             items: Items::new(alloc, limits, keeping),
-            coefs: None,
+            window: Window::None,
             scan: None,
             taken: 0,
             begun: ScanHistory::new(),
             head: None,
+            by_row,
+            strip: None,
         }
     }
 
-    /// How many plain bytes of a scan there are at the start of these that may be taken together.
-    pub fn plain_length(&self, bytes: &[u8]) -> usize
+    /// Goes to the next MCU row if one is complete, and takes the bits that wait after it.
+    pub fn resume(&mut self) -> Step
+        requires { (bytes : List ℕ) × RepresentsStrip (limits_of self.old) bytes (rows_in self.old.window) self.old }
+        ensures { Resumed (seen_of self.old) result (seen_of self.new) }
+    {
+        match &mut self.window {
+            Window::None => Step::More,
+            Window::All(_) => Step::More,
+            Window::Row(rows) => {
+                let Some(scan) = &mut self.scan else {
+                    return Step::More;
+                };
+                rows.next();
+                if rows.waiting.len() == 0 {
+                    return Step::More;
+                }
+                let before = rows.left;
+                match scan.rest_in_row(rows) {
+                    Ok(_) => row_step(before, rows.left),
+                    Err(fault) => fault_at(fault, self.taken),
+                }
+            }
+        }
+    }
+
+    /// Takes one or more of these bytes, up to the first event. Returns how many, and the event.
+    pub fn some(&mut self, bytes: &[u8]) -> (usize, Step)
+        requires stands { (front : List ℕ) × StripGoes (limits_of self.old) front (rows_in self.old.window) self.old }
+        requires room { self.old.taken < (limits_of self.old).input }
+        requires some { 1 ≤ length bytes.now }
+        ensures { TakesBytes (seen_of self.old) bytes.now result.0 result.1 (seen_of self.new) }
+    {
+        let n = self.plain_length(bytes);
+        if n > 0 {
+            return self.run(bytes, n);
+        }
+        let n = self.front(bytes);
+        (n + 1, self.byte(bytes[n]))
+    }
+
+    // How many plain bytes of a scan there are at the start of these that may be taken together.
+    fn plain_length(&self, bytes: &[u8]) -> usize
         requires { self.now.taken ≤ (limits_of self.now).input }
         ensures { HasPlain self.now bytes.now result }
     {
@@ -81,46 +137,41 @@ impl FileWork {
         if !scan.is_open() {
             return 0;
         }
-        plain_length(bytes, self.items.limits.input - self.taken)
+        plain_length(bytes, self.items.limits().input - self.taken)
     }
 
-    /// Takes plain bytes inside the data of a scan, up to the byte that ends an interval or reveals a fault. Returns how
-    /// many were taken, and the result.
-    pub fn run(&mut self, run: &[u8]) -> (usize, Step)
-        requires stands { (bytes : List ℕ) × RepresentsFile (limits_of self.old) bytes self.old }
-        requires limits { AreLimits (limits_of self.old) }
-        requires plain { IsPlainRun self.old run.now }
-        ensures after { TakesSome self.old run.now result.0 result.1 self.new }
-        ensures keeping { keeping_of self.new ≡ keeping_of self.old }
-        ensures no { IsNoRow result.1 }
+    // Takes plain bytes inside the data of a scan, of so many first ones, up to the byte that ends an interval, reveals a
+    // fault or has the last bit of an MCU row. Returns how many were taken, and the result.
+    fn run(&mut self, bytes: &[u8], size: usize) -> (usize, Step)
+        requires stands { (front : List ℕ) × StripGoes (limits_of self.old) front (rows_in self.old.window) self.old }
+        requires within { size ≤ length bytes.now }
+        requires plain { IsPlainRun self.old (take size bytes.now) }
+        ensures { TakesBytes (seen_of self.old) bytes.now result.0 result.1 (seen_of self.new) }
     {
-        let Some(coefs) = &mut self.coefs else {
-            unreachable!();
-        };
         let Some(scan) = &mut self.scan else {
             unreachable!();
         };
-        let (n, step) = scan.run(coefs, run);
+        let before = self.window.left();
+        let (n, step) = scan.run(&mut self.window, &bytes[..size]);
         let at = self.taken + n as u64;
         self.taken = at;
         match step {
-            Ok(_) => (n, Step::More),
+            Ok(_) => (n, row_step(before, self.window.left())),
             Err(fault) => (n, fault_at(fault, at)),
         }
     }
 
-    /// Skips what causes no event, and returns how many bytes that were: between items complete segments that break no
-    /// rule, and then fill bytes or contents before a segment's last byte; inside the data of a scan fill bytes after
-    /// FF. It always leaves a byte.
-    pub fn front(&mut self, bytes: &[u8]) -> usize
-        requires stands { (q : Option Picture) × (bytes : List ℕ) × RepresentsFile (limits_of self.old) bytes (file_with self.old q) }
-        requires limits { AreLimits (limits_of self.old) }
+    // Skips what causes no event, and returns how many bytes that were: between items complete segments that break no
+    // rule, and then fill bytes or contents before a segment's last byte; inside the data of a scan fill bytes after
+    // FF. It always leaves a byte.
+    fn front(&mut self, bytes: &[u8]) -> usize
+        requires stands { (q : Window) × (bytes : List ℕ) × RepresentsFile (limits_of self.old) bytes (file_with self.old q) }
         requires room { self.old.taken < (limits_of self.old).input }
         requires some { 1 ≤ length bytes.now }
         ensures after { PassesFront self.old bytes.now result self.new }
         ensures most { PassesAll self.old.scan self.old bytes.now result }
     {
-        let room = self.items.limits.input - self.taken;
+        let room = self.items.limits().input - self.taken;
         let most = (bytes.len() as u64).min(room) as usize;
         let ahead = &bytes[..most - 1];
         let Some(scan) = &self.scan else {
@@ -143,7 +194,7 @@ impl FileWork {
         ensures after { GoesOn self.old bytes.now result self.new }
         ensures none { HasNoneToPass self.new.items (drop result bytes.now) }
         ensures sparing { NeedsNoMemory self.old → NeedsNoMemory self.new }
-        ensures keeping { keeping_of self.new ≡ keeping_of self.old }
+        ensures keeping { settings_of self.new ≡ settings_of self.old }
     {
         let mut done = 0usize;
         loop {
@@ -156,30 +207,27 @@ impl FileWork {
         }
     }
 
-    /// Takes a byte, inside the data of a scan or between items.
-    pub fn step(&mut self, byte: u8) -> ItemStep
-        requires stands { (bytes : List ℕ) × RepresentsFile (limits_of self.old) bytes self.old }
-        requires limits { AreLimits (limits_of self.old) }
+    // Takes a byte, inside the data of a scan or between items.
+    fn byte(&mut self, byte: u8) -> Step
+        requires stands { (front : List ℕ) × StripGoes (limits_of self.old) front (rows_in self.old.window) self.old }
         requires room { self.old.taken < (limits_of self.old).input }
-        ensures after { TakesFileStep self.old byte result self.new }
-        ensures head { self.new.head ≡ self.old.head }
-        ensures keeping { keeping_of self.new ≡ keeping_of self.old }
+        ensures { TakesOne (seen_of self.old) byte result (seen_of self.new) }
     {
         let at = self.taken + 1;
         self.taken = at;
         let Some(scan) = &mut self.scan else {
-            return self.items.byte(byte);
+            let came = self.items.byte(byte);
+            return self.item(came);
         };
-        let Some(coefs) = &mut self.coefs else {
-            unreachable!();
-        };
-        match scan.byte(coefs, byte) {
-            Ok(false) => ItemStep::More,
+        let before = self.window.left();
+        match scan.byte(&mut self.window, byte) {
+            Ok(false) => row_step(before, self.window.left()),
             Ok(true) => {
                 self.scan = None;
-                self.items.marker(byte, at)
+                let came = self.items.marker(byte, at);
+                self.item(came)
             }
-            Err(fault) => ItemStep::Fault(FaultAt { fault, at }),
+            Err(fault) => fault_at(fault, at),
         }
     }
 
@@ -193,20 +241,54 @@ impl FileWork {
         self.begun.scans
     }
 
-    /// Takes a complete scan header.
+    // The result of an item that is complete, or of a further byte of one.
+    fn item(&mut self, came: Result<SegStep, Stop>) -> Step
+        requires { came ≡ Ok SegStep.Whole → HasHeader (rows_in self.old.window) self.old }
+        ensures first { rows_in self.old.window ≡ None → TakesFirstItem (seen_of self.old) came result (seen_of self.new) }
+        ensures later { (rows : RowWork) → rows_in self.old.window ≡ Some rows → PassesLater self.old came result self.new }
+    {
+        match came {
+            Ok(SegStep::Whole) => self.take_head(),
+            Ok(SegStep::Eoi) => self.take_end(),
+            Ok(SegStep::More | SegStep::Start | SegStep::Frame) => Step::More,
+            Err(stop) => Step::Ended(stop),
+        }
+    }
+
+    // Takes a complete scan header.
     #[cold]
     #[inline(never)]
-    pub fn take_head(&mut self) -> Step
+    fn take_head(&mut self) -> Step
+        requires { HasHeader (rows_in self.old.window) self.old }
+        ensures first { rows_in self.old.window ≡ None → TakesFirstHead (seen_of self.old) result (seen_of self.new) }
+        ensures later { (rows : RowWork) → rows_in self.old.window ≡ Some rows → PassesLater self.old (Ok SegStep.Whole) result self.new }
+    {
+        if let Window::Row(_) = &self.window {
+            return self.later_head();
+        }
+        if !self.by_row || self.head.is_some() {
+            return self.begin_scan();
+        }
+        let Some((frame, head)) = self.head_of_all() else {
+            return self.begin_scan();
+        };
+        self.begin_rows(&frame, &head)
+    }
+
+    // Begins the scan of a complete scan header, with room for the whole picture, or returns its fault.
+    fn begin_scan(&mut self) -> Step
         requires stands { (bytes : List ℕ) × HasCompleteHeader (limits_of self.old) bytes self.old }
+        requires none { rows_in self.old.window ≡ None }
         ensures after { TakesFileHead self.old result self.new }
         ensures head { IfStops result (self.new.head ≡ self.old.head) }
-        ensures keeping { keeping_of self.new ≡ keeping_of self.old }
+        ensures keeps { KeepsFile self.old self.new }
+        ensures all { rows_in self.new.window ≡ None }
         ensures no { IsNoRow result }
     {
         if self.make_room().is_err() {
             return Step::Ended(Stop::NoMemory);
         }
-        let Some(coefs) = &self.coefs else {
+        let Window::All(coefs) = &self.window else {
             unreachable!();
         };
         coefs.checked();
@@ -222,12 +304,12 @@ impl FileWork {
     // Begins the scan of a complete scan header, or returns its fault; of the picture nothing is required.
     fn begin_head(&mut self) -> Result<(), FaultAt>
         requires { CanBeginHead self.old }
-        ensures after { (now : Picture) → HasSizes now → TakesHead (with_coefs self.old now) result (with_coefs self.new now) }
-        ensures coefs { self.new.coefs ≡ self.old.coefs }
+        ensures after { (now : Picture) → HasSizes now → TakesHead (with_picture self.old now) result (with_picture self.new now) }
+        ensures window { self.new.window ≡ self.old.window }
         ensures left { LeavesAll self.old result self.new }
         ensures scanned { result ≡ Ok tt → self.new.items.held.scanned ≡ true }
         ensures head { self.new.head ≡ self.old.head }
-        ensures keeping { keeping_of self.new ≡ keeping_of self.old }
+        ensures keeps { KeepsFile self.old self.new }
     {
         let at = self.taken;
         let Some(held) = &self.items.held.frame else {
@@ -258,8 +340,8 @@ impl FileWork {
         }
     }
 
-    /// Keeps the first scan header.
-    pub fn note_head(&mut self)
+    // Keeps the first scan header.
+    fn note_head(&mut self)
         ensures { NotesHead self.old self.new }
     {
         if self.head.is_none() {
@@ -270,24 +352,25 @@ impl FileWork {
     // Makes the picture before the first scan.
     fn make_room(&mut self) -> Result<(), NoMemory>
         ensures made { RoomMade self.old result self.new }
+        ensures rows { rows_in self.new.window ≡ rows_in self.old.window }
         ensures head { self.new.head ≡ self.old.head }
-        ensures keeping { keeping_of self.new ≡ keeping_of self.old }
+        ensures keeps { KeepsFile self.old self.new }
     {
         let Some(frame) = &self.items.held.frame else {
             return Ok(());
         };
         frame.checked();
-        if self.coefs.is_some() {
+        let Window::None = &self.window else {
             return Ok(());
-        }
+        };
         let coefs = self.orders.coefs(self.alloc, frame)?;
-        self.coefs = Some(coefs);
+        self.window = Window::All(coefs);
         Ok(())
     }
 
-    /// Takes EOI: the file is complete if each component was in a scan, and otherwise has the fault MissingComponent.
-    pub fn take_end(&self) -> Step
-        ensures end { (q : Option Picture) → TakesFileEnd (file_with self.now q) result }
+    // Takes EOI: the file is complete if each component was in a scan, and otherwise has the fault MissingComponent.
+    fn take_end(&self) -> Step
+        ensures end { (q : Window) → TakesFileEnd (file_with self.now q) result }
         ensures memory { HasMemory result }
         ensures no { IsNoRow result }
     {
@@ -300,107 +383,10 @@ impl FileWork {
         }))
     }
 
-    /// Goes to the next MCU row if one is complete, and takes the bits that wait after it.
-    pub fn take_waiting_bits(&mut self, rows: &mut RowWork) -> Step
-        requires { (bytes : List ℕ) × RepresentsRows (limits_of self.old) bytes self.old rows.old }
-        ensures after { TakesRest self.old rows.old result self.new rows.new }
-        ensures goes { GoesOnRest result }
-        ensures rows { CountsRows result rows.old rows.new }
-        ensures memory { HasMemory result }
-        ensures same { self.new.items ≡ self.old.items }
-        ensures head { self.new.head ≡ self.old.head }
-    {
-        let at = self.taken;
-        let Some(scan) = &mut self.scan else {
-            return Step::More;
-        };
-        rows.next();
-        if rows.waiting.len() == 0 {
-            return Step::More;
-        }
-        let before = rows.left;
-        match scan.rest_in_row(rows) {
-            Ok(_) => row_step(rows, before),
-            Err(fault) => fault_at(fault, at),
-        }
-    }
-
-    /// Takes a byte, inside the data of the scan or after them.
-    pub fn byte_in_row(&mut self, rows: &mut RowWork, byte: u8) -> Step
-        requires stands { (bytes : List ℕ) × GoesByRow (limits_of self.old) bytes self.old rows.old }
-        requires limits { AreLimits (limits_of self.old) }
-        requires room { self.old.taken < (limits_of self.old).input }
-        ensures after { TakesRowByte self.old rows.old byte result self.new rows.new }
-        ensures rows { CountsRows result rows.old rows.new }
-        ensures memory { NeedsNoMemory self.old → HasMemory result }
-        ensures sparing { NeedsNoMemory self.old → NeedsNoMemory self.new }
-        ensures head { self.new.head ≡ self.old.head }
-        ensures keeping { keeping_of self.new ≡ keeping_of self.old }
-    {
-        let at = self.taken + 1;
-        self.taken = at;
-        let Some(scan) = &mut self.scan else {
-            let came = self.items.byte(byte);
-            return self.later_item(came);
-        };
-        let before = rows.left;
-        match scan.byte(rows, byte) {
-            Ok(false) => row_step(rows, before),
-            Ok(true) => {
-                self.scan = None;
-                let came = self.items.marker(byte, at);
-                self.later_item(came)
-            }
-            Err(fault) => fault_at(fault, at),
-        }
-    }
-
-    /// Takes plain bytes inside the data of the scan. Returns how many, and the result.
-    pub fn run_in_row(&mut self, rows: &mut RowWork, run: &[u8]) -> (usize, Step)
-        requires stands { (bytes : List ℕ) × GoesByRow (limits_of self.old) bytes self.old rows.old }
-        requires limits { AreLimits (limits_of self.old) }
-        requires plain { IsPlainRun self.old run.now }
-        ensures after { TakesRunOfRows self.old rows.old run.now result.0 result.1 self.new rows.new }
-        ensures rows { CountsRows result.1 rows.old rows.new }
-        ensures memory { HasMemory result.1 }
-        ensures same { self.new.items ≡ self.old.items }
-        ensures head { self.new.head ≡ self.old.head }
-    {
-        let Some(scan) = &mut self.scan else {
-            unreachable!();
-        };
-        let before = rows.left;
-        let (n, step) = scan.run(rows, run);
-        let at = self.taken + n as u64;
-        self.taken = at;
-        match step {
-            Ok(_) => (n, row_step(rows, before)),
-            Err(fault) => (n, fault_at(fault, at)),
-        }
-    }
-
-    // The result of an item after the scan.
-    fn later_item(&self, came: ItemStep) -> Step
-        requires { came ≡ ItemStep.Head → HasLaterHead self.now }
-        ensures after { PassesItem self.now came result }
-        ensures memory { (came ≡ ItemStep.NoMemory → ⊥) → HasMemory result }
-        ensures no { IsNoRow result }
-    {
-        match came {
-            ItemStep::More => Step::More,
-            ItemStep::Head => self.later_head(),
-            ItemStep::Eoi => self.take_end(),
-            ItemStep::Fault(fault) => Step::Ended(Stop::Fault(fault)),
-            ItemStep::NoMemory => Step::Ended(Stop::NoMemory),
-        }
-    }
-
     // The fault of a scan header after a scan of all components.
     fn later_head(&self) -> Step
         requires { HasLaterHead self.now }
-        ensures after { PassesLaterHead self.now result }
-        ensures memory { HasMemory result }
-        ensures no { IsNoRow result }
+        ensures { PassesLater self.now (Ok SegStep.Whole) result self.now }
     {
         let Some(frame) = &self.items.held.frame else {
             unreachable!();
@@ -416,8 +402,8 @@ impl FileWork {
         }
     }
 
-    /// The frame and the complete scan header, if it is of a sequential scan of all components and breaks no rule.
-    pub fn head_of_all(&self) -> Option<(Frame, ScanHead)>
+    // The frame and the complete scan header, if it is of a sequential scan of all components and breaks no rule.
+    fn head_of_all(&self) -> Option<(Frame, ScanHead)>
         ensures head { FindsHead self.now result }
         ensures none { FindsNone self.now result }
     {
@@ -438,37 +424,36 @@ impl FileWork {
         Some((frame.copy(), head))
     }
 
-    /// Begins a scan with such a header, with its first MCU row, and with room for each segment after it.
-    pub fn begin_rows(&mut self, frame: &Frame, head: &ScanHead) -> Result<RowWork, Stop>
-        requires of { HasHeadOfAll self.old frame.now head.now }
+    // Begins the first scan, with such a header, with its first MCU row, and with room for each segment after it.
+    fn begin_rows(&mut self, frame: &Frame, head: &ScanHead) -> Step
+        requires stands { (bytes : List ℕ) × HasCompleteHeader (limits_of self.old) bytes self.old }
+        requires finds { FindsHead self.old (Some (frame.now, head.now)) }
+        requires none { rows_in self.old.window ≡ None }
         requires first { self.old.head ≡ None }
-        ensures after { BeginsRows self.old frame.now head.now result self.new }
-        ensures told { IfOk result (λ rows. BeginsTold self.old frame.now head.now self.new) }
-        ensures count { IfOk result (λ rows. unfinished rows ≡ scan_mcus_down frame.now (head_components head.now)) }
-        ensures all { IfOk result (λ rows. CountsRowsOfScan (Some rows) self.new) }
-        ensures sparing { IfOk result (λ rows. keeping_of self.old ≡ copying.None → NeedsNoMemory self.new) }
-        ensures head { IfErr result (λ stop. self.new.head ≡ self.old.head) }
-        ensures keeping { keeping_of self.new ≡ keeping_of self.old }
+        requires by_row { self.old.by_row ≡ true }
+        ensures { TakesFirstHead (seen_of self.old) result (seen_of self.new) }
     {
         frame.checked();
         let Ok(rows) = RowWork::new(self.alloc, frame, head) else {
-            return Err(Stop::NoMemory);
+            return Step::Ended(Stop::NoMemory);
         };
         match self.begin_head() {
             Ok(()) => {
                 if self.items.segments.reserve().is_err() {
-                    return Err(Stop::NoMemory);
+                    return Step::Ended(Stop::NoMemory);
                 }
                 self.note_head();
-                Ok(rows)
+                self.strip = Some(strip_of(self));
+                self.window = Window::Row(rows);
+                Step::More
             }
-            Err(fault) => Err(Stop::Fault(fault)),
+            Err(fault) => Step::Ended(Stop::Fault(fault)),
         }
     }
 }
 
-/// How many bytes there are before the first FF, at most `most`.
-pub fn plain_length(bytes: &[u8], most: u64) -> usize
+// How many bytes there are before the first FF, at most `most`.
+fn plain_length(bytes: &[u8], most: u64) -> usize
     ensures within { result ≤ length bytes.now }
     ensures few { result < 4294967296 }
     ensures room { result ≤ most }
@@ -491,12 +476,12 @@ fn fault_at(fault: Fault, at: u64) -> Step
     Step::Ended(Stop::Fault(FaultAt { fault, at }))
 }
 
-// The result of data that go on: whether the MCU row is complete, and wasn't when this many of its units were left.
-fn row_step(rows: &RowWork, before: u64) -> Step
-    ensures is { result ≡ (if completes_row before rows.now.left then Step.Row else Step.More) }
+// The result of data that go on, by how many units of the MCU row were left, and are: whether it is complete, and wasn't.
+fn row_step(before: u64, left: u64) -> Step
+    ensures is { result ≡ (if completes_row before left then Step.Row else Step.More) }
     ensures memory { HasMemory result }
 {
-    if before > 0 && rows.left == 0 {
+    if before > 0 && left == 0 {
         Step::Row
     } else {
         Step::More

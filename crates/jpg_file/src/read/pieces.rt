@@ -1,12 +1,14 @@
 //! A piece of a file, read up to the next MCU row if its first scan has all components, or up to the end of a scan's data
 //! (T.81, A.2.3, B.1.1, B.2.1).
 ghost use Rattle.std.specs.Prelude.{ℕ, List, ◌≡◌, None, true, false};
-ghost use Rattle.jpg_spec.specs.FrameHeader.{AreLimits};
+ghost use Rattle.jpg_file.specs.Read.File.{limits_of};
 ghost use Rattle.jpg_file.specs.Read.ReadFile.{ReadsPiece, RowsOpen};
+ghost use Rattle.jpg_file.specs.Read.Strips.{seen_of};
+ghost use Rattle.jpg_file.specs.Read.Window.{rows_in};
 
+use crate::read::file::FileState;
 use crate::read::step::Step;
-use crate::read::strip_work::StripWork;
-use jpg_base::{Limits, Stop};
+use jpg_base::Stop;
 
 /// The result of a piece of a file that is read MCU row by MCU row.
 #[derive(Clone, Copy, Debug, PartialEq, Eq)]
@@ -33,19 +35,14 @@ pub enum FedScan {
 /// Takes the bits that wait, and then the bytes of a piece up to the last bit of the next MCU row, or to the one that
 /// completes the file. With `scans`, where no MCU rows are read, it goes up to the code of the marker that ends the data of
 /// a scan, and returns Row there.
-pub fn read_piece(
-    work: &mut StripWork,
-    limits: Limits,
-    piece: &[u8],
-    scans: bool,
-) -> Result<FedRow, Stop>
-    requires limits { AreLimits limits }
-    requires open { (bytes : List ℕ) × RowsOpen limits bytes work.old.rows work.old.file }
-    requires plain { scans ≡ true → (work.old.by_row ≡ false) × (work.old.rows ≡ None) }
-    ensures { ReadsPiece scans limits work.old piece.now result work.new }
+pub fn read_piece(work: &mut FileState, piece: &[u8], scans: bool) -> Result<FedRow, Stop>
+    requires open { (bytes : List ℕ) × RowsOpen (limits_of work.old) bytes (rows_in work.old.window) work.old }
+    requires plain { scans ≡ true → (work.old.by_row ≡ false) × (rows_in work.old.window ≡ None) }
+    ensures { ReadsPiece scans (limits_of work.old) (seen_of work.old) piece.now result (seen_of work.new) }
 {
+    let limits = work.items.limits();
     let mut step = work.resume();
-    let ended = work.file.scans_ended();
+    let ended = work.scans_ended();
     let mut done = 0usize;
     loop {
         match step {
@@ -54,10 +51,10 @@ pub fn read_piece(
             Step::Whole => return Ok(FedRow::Done { used: done as u64 }),
             Step::Ended(stop) => return Err(stop),
         }
-        if work.file.taken >= limits.input {
+        if work.taken >= limits.input {
             return Err(Stop::too_long(limits.input));
         }
-        if scans && work.file.scans_ended() != ended {
+        if scans && work.scans_ended() != ended {
             return Ok(FedRow::Row { used: done as u64 });
         }
         if done == piece.len() {

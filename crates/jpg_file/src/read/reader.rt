@@ -12,14 +12,14 @@ ghost use Rattle.jpg_file.specs.Read.ScanPieces.{AsksOnFeedScan, EndsDoneScan, F
 ghost use Rattle.jpg_file.specs.declared.read.ends.End.TheVariants as ends;
 
 use crate::read::ends::End;
-use crate::read::file::FileWork;
+use crate::read::file::FileState;
 use crate::read::orders::Orders;
 use crate::read::picture::Picture;
 use crate::read::picture_taken::picture_of;
 use crate::read::pieces::{FedRow, FedScan, read_piece};
 use crate::read::rows::RowWork;
 use crate::read::strip_head::StripHead;
-use crate::read::strip_work::StripWork;
+use crate::read::window::Window;
 use jpg_base::{Fed, Frame, Limits, Stop};
 use jpg_coefs::Coefs;
 use jpg_markers::KeptList;
@@ -32,10 +32,8 @@ use std::mem;
 /// sequential frame, and otherwise into a picture too.
 #[derive(Drop)]
 pub struct Reader {
-    // The limits of the input.
-    limits: Limits,
     // The state of the file.
-    work: StripWork,
+    work: FileState,
     // It is read MCU row by MCU row, and no markers are kept but JFIF and Adobe segments.
     by_row: bool,
     // The file is complete, or ended early.
@@ -46,13 +44,15 @@ pub struct Reader {
 
 impl Model for Reader {
     ghost use Rattle.jpg_file.specs.Read.ReadFile.{ReaderState};
+    ghost use Rattle.jpg_file.specs.Read.File.{limits_of};
     ghost use Rattle.jpg_file.specs.Read.ReadFile.{IsReading};
+    ghost use Rattle.jpg_file.specs.Read.Window.{rows_in};
 
     ghost Value = { ReaderState };
 
-    ghost view = { λ r. record { limits = r.limits; file = r.work.file; by_row = r.by_row; in_rows = r.work.by_row; rows = r.work.rows; strip = r.work.strip; done = r.done; stop = r.stop } };
+    ghost view = { λ r. record { limits = limits_of r.work; file = r.work; by_row = r.by_row; in_rows = r.work.by_row; rows = rows_in r.work.window; strip = r.work.strip; done = r.done; stop = r.stop } };
 
-    ghost invariant = { λ r. IsReading (record { limits = r.limits; file = r.work.file; by_row = r.by_row; in_rows = r.work.by_row; rows = r.work.rows; strip = r.work.strip; done = r.done; stop = r.stop }) };
+    ghost invariant = { λ r. IsReading (record { limits = limits_of r.work; file = r.work; by_row = r.by_row; in_rows = r.work.by_row; rows = rows_in r.work.window; strip = r.work.strip; done = r.done; stop = r.stop }) };
 }
 
 impl Reader {
@@ -88,14 +88,26 @@ impl Reader {
         ensures keeping { keeping_of result.file ≡ copying }
         ensures plain { IsPlain result }
     {
+        Reader::begin(alloc, limits, copying, orders, false)
+    }
+
+    // A reader that was given no bytes, which reads MCU row by MCU row or not.
+    fn begin(
+        alloc: Global,
+        limits: Limits,
+        copying: Copying,
+        orders: Orders,
+        in_rows: bool,
+    ) -> Reader
+        requires { AreLimits limits }
+        ensures read { HasRead [] result }
+        ensures limits { result.limits ≡ limits }
+        ensures keeping { keeping_of result.file ≡ copying }
+        ensures in_rows { result.in_rows ≡ in_rows }
+        ensures none { result.rows ≡ None }
+    {
         Reader {
-            limits,
-            work: StripWork {
-                file: FileWork::new(alloc, limits, copying, orders),
-                by_row: false,
-                rows: None,
-                strip: None,
-            },
+            work: FileState::new(alloc, limits, copying, orders, in_rows),
             by_row: false,
             done: false,
             stop: None,
@@ -124,9 +136,7 @@ impl Reader {
         ensures keeping { keeping_of result.file ≡ copying }
         ensures in_rows { result.in_rows ≡ true }
     {
-        let mut reader = Reader::in_order(alloc, limits, copying, Orders::by_rows());
-        reader.work.by_row = true;
-        reader
+        Reader::begin(alloc, limits, copying, Orders::by_rows(), true)
     }
 
     /// Takes a further piece of the file, of any length. Returns Done if the file is complete then, and how many bytes
@@ -179,7 +189,7 @@ impl Reader {
     pub fn scans_ended(&self) -> u64
         ensures { (bytes : List ℕ) → HasRead bytes self.now → ScansEnded self.now.limits bytes result }
     {
-        self.work.file.scans_ended()
+        self.work.scans_ended()
     }
 
     /// Takes a further piece of the file, up to the byte with the last bit of the next MCU row. Returns Row if one more
@@ -237,7 +247,7 @@ impl Reader {
         if let Some(stop) = self.stop {
             return Err(stop);
         }
-        let answer = read_piece(&mut self.work, self.limits, piece, scans);
+        let answer = read_piece(&mut self.work, piece, scans);
         self.done = matches!(answer, Ok(FedRow::Done { .. }));
         self.stop = answer.err();
         answer
@@ -249,7 +259,8 @@ impl Reader {
         ensures is { result ≡ self.now.limits.input - self.now.file.taken }
         ensures left { (bytes : List ℕ) → HasRead bytes self.now → result + length bytes ≡ self.now.limits.input }
     {
-        self.limits.input.saturating_sub(self.work.file.taken)
+        let limits = self.work.items.limits();
+        limits.input.saturating_sub(self.work.taken)
     }
 
     /// Whether the file is complete or ended early, so that neither `feed` nor `end` may be called any more.
@@ -267,7 +278,7 @@ impl Reader {
         ensures given { (bytes : List ℕ) (m : ℕ) → HasGivenRow bytes m self.now → result ≡ true }
         ensures done { self.now.done ≡ true → result ≡ true }
     {
-        self.work.file.begun.is_complete()
+        self.work.begun.is_complete()
     }
 
     /// The file ends here. Returns Early with the number of bytes taken if each component has begun: its picture may be
@@ -289,8 +300,8 @@ impl Reader {
         if let Some(stop) = self.stop {
             return End::Stop(stop);
         }
-        let taken = self.work.file.taken;
-        if self.work.file.begun.is_complete() {
+        let taken = self.work.taken;
+        if self.work.begun.is_complete() {
             self.done = true;
             return End::Early(taken);
         }
@@ -304,7 +315,7 @@ impl Reader {
     pub fn head(&self) -> Option<(Frame, Colour, u64)>
         ensures { result ≡ head_seen self.now }
     {
-        let head = self.work.file.head.as_ref()?;
+        let head = self.work.head.as_ref()?;
         Some((head.frame.copy(), head.colour, head.at))
     }
 
@@ -313,7 +324,9 @@ impl Reader {
         ensures some { (bytes : List ℕ) (b : HasBegunRows bytes self.now) → TellsStrip result (frame_of self.now.limits b.before) (picture_read bytes self.now b) }
         ensures none { self.now.rows ≡ None → result ≡ None }
     {
-        self.work.rows.as_ref()?;
+        let Window::Row(_) = &self.work.window else {
+            return None;
+        };
         Some(self.work.strip.as_ref()?.copy())
     }
 
@@ -323,10 +336,10 @@ impl Reader {
         requires { (rows : RowWork) × (self.now.rows ≡ Some rows) }
         ensures { (rows : RowWork) → self.now.rows ≡ Some rows → result.now ≡ rows.coefs }
     {
-        match &self.work.rows {
-            Some(rows) => &rows.coefs,
-            None => unreachable!(),
-        }
+        let Window::Row(rows) = &self.work.window else {
+            unreachable!();
+        };
+        &rows.coefs
     }
 
     /// The picture of the complete file, or of one that ended early, with the markers that were kept. It may be called
@@ -344,8 +357,9 @@ impl Reader {
         self.done = false;
         self.stop = Some(Stop::NoMemory);
         self.by_row = false;
+        let picture = picture_of(&mut self.work);
         self.work.by_row = false;
-        picture_of(&mut self.work.file)
+        picture
     }
     /// The markers that were kept, of the complete file or of one that ended early. It may be called only after `feed` or
     /// `feed_keeping` returned Done or `end` returned Early (`is_done`). The reader has nothing left then, and returns
@@ -360,7 +374,7 @@ impl Reader {
         self.stop = Some(Stop::NoMemory);
         self.by_row = false;
         self.work.by_row = false;
-        let alloc = self.work.file.alloc;
-        mem::replace(&mut self.work.file.items.held.kept, KeptList::new(alloc))
+        let alloc = self.work.alloc;
+        mem::replace(&mut self.work.items.held.kept, KeptList::new(alloc))
     }
 }

@@ -4,11 +4,12 @@ ghost use Rattle.jpg_spec.specs.Geometry.{Frame as Numbers, units};
 ghost use Rattle.jpg_spec.specs.Segments.{head_components};
 ghost use Rattle.jpg_base.specs.Cursor.{AreIn, scan_mcus_down};
 ghost use Rattle.jpg_seq.specs.Reader.{IsRowOf, top_of};
-ghost use Rattle.jpg_file.specs.Read.Machine.{waits_of, CanTake, TakesBitsInto};
-ghost use Rattle.jpg_file.specs.Read.Strips.{PassesRowBits, row_stored};
+ghost use Rattle.jpg_file.specs.Read.Machine.{waits_of};
+ghost use Rattle.jpg_file.specs.Read.Window.{CanTake, PassesBytes, TakesBitsInto, TakesBytesInto};
+ghost use Rattle.jpg_file.specs.declared.read.window.Window.TheVariants as window;
+ghost use Rattle.jpg_file.specs.Read.Strips.{PassesRowBits};
 ghost use Rattle.jpg_file.specs.Read.InData.{IsRowIn, KeepsRowIn, TurnsRow, block_rows_of, unfinished, zero_picture};
 
-use crate::read::blocks::ScanBlocks;
 use crate::read::machine::ScanReader;
 use jpg_base::{BitStore, Frame, NoMemory, ScanHead};
 use jpg_coefs::{Coefs, ScanMachine, Taken};
@@ -117,8 +118,8 @@ impl RowWork {
 
     /// Gives the machine bits up to the last one of the units of this MCU row. Those after it wait.
     pub fn take_bits(&mut self, machine: &mut ScanReader, mut store: BitStore) -> Taken
-        requires { CanTake _ row_stored self.old machine.old }
-        ensures takes { TakesBitsInto row_stored self.old machine.old store result self.new machine.new }
+        requires { CanTake (window.Row self.old) machine.old }
+        ensures takes { TakesBitsInto (window.Row self.old) machine.old store result (window.Row self.new) machine.new }
         ensures more { PassesRowBits self.old machine.old store result self.new machine.new }
     {
         let ScanReader::Sequential(machine) = machine else {
@@ -130,12 +131,15 @@ impl RowWork {
         self.waiting = waiting_of(taken, store);
         taken
     }
-}
 
-impl ScanBlocks for RowWork {
-    ghost kind = { row_stored };
-
-    fn take_bytes(&mut self, machine: &mut ScanReader, bytes: &[u8]) -> (usize, Taken) {
+    /// Gives the machine the bits of data bytes up to the last one of the units of this MCU row, as a window's.
+    pub fn take_bytes(&mut self, machine: &mut ScanReader, bytes: &[u8]) -> (usize, Taken)
+        requires can { CanTake (window.Row self.old) machine.old }
+        requires some { 1 ≤ length bytes.now }
+        requires few { length bytes.now < 4294967296 }
+        ensures takes { TakesBytesInto (window.Row self.old) machine.old bytes.now result.0 result.1 (window.Row self.new) machine.new }
+        ensures more { PassesBytes (window.Row self.old) machine.old bytes.now result.0 result.1 (window.Row self.new) machine.new }
+    {
         let ScanReader::Sequential(machine) = machine else {
             unreachable!();
         };

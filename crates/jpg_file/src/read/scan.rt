@@ -6,10 +6,11 @@ ghost use Rattle.jpg_coefs.specs.Machine.{fault_of};
 ghost use Rattle.jpg_coefs.specs.Picture.{Picture};
 ghost use Rattle.jpg_file.specs.Read.InData.{ArePlain, MarkerAt, TakesCode, scan_answer, work_after, scan_left, IsDataOf, IsHalfRow, PassesByte, PassesRun, TakesByteInto, TakesRestInRow, TakesRunInto};
 ghost use Rattle.jpg_file.specs.Read.Strips.{PassesRest};
+ghost use Rattle.jpg_file.specs.Read.Window.{waiting_in};
 
-use crate::read::blocks::ScanBlocks;
 use crate::read::machine::ScanReader;
 use crate::read::rows::RowWork;
+use crate::read::window::Window;
 use jpg_base::codes::RST0;
 use jpg_coefs::{Taken, UnitFault};
 use jpg_huff::{Gate, Passed};
@@ -49,11 +50,11 @@ impl InScan {
     /// Takes a byte of the file, after those of the scan so far. Returns whether the data are over: then it is the code
     /// of the marker that ended them, and all intervals are complete.
     #[tactic(auto, using(crate::proofs::Scans::ScanBytes::never_over))]
-    pub fn byte<B: ScanBlocks>(&mut self, blocks: &mut B, byte: u8) -> Result<bool, Fault>
-        requires inside { IsDataOf _ B.kind self.old blocks.old }
-        requires none { B.kind.waiting blocks.old ≡ [] }
-        ensures takes { TakesByteInto B.kind self.old blocks.old byte result self.new blocks.new }
-        ensures passes { PassesByte B.kind self.old blocks.old byte result self.new blocks.new }
+    pub fn byte(&mut self, window: &mut Window, byte: u8) -> Result<bool, Fault>
+        requires inside { IsDataOf self.old window.old }
+        requires none { waiting_in window.old ≡ [] }
+        ensures takes { TakesByteInto self.old window.old byte result self.new window.new }
+        ensures passes { PassesByte self.old window.old byte result self.new window.new }
         ensures waited { result ≡ Ok true → self.old.gate ≡ true }
         ensures done { result ≡ Ok true → scan_left self.new ≡ 0 }
     {
@@ -63,7 +64,7 @@ impl InScan {
                 if self.whole {
                     return Err(Fault::ExtraData);
                 }
-                let (_, taken) = blocks.take_bytes(&mut self.machine, &[data]);
+                let (_, taken) = window.take_bytes(&mut self.machine, &[data]);
                 self.stepped(taken)
             }
             Passed::Marker(code) => self.marker(code),
@@ -81,18 +82,18 @@ impl InScan {
 
     /// Takes plain bytes from the start of a run, at most up to the byte that ends the interval, reveals a fault or has
     /// bits that wait. Returns how many were taken, and the result, as of a byte that is no marker's.
-    pub fn run<B: ScanBlocks>(&mut self, blocks: &mut B, run: &[u8]) -> (usize, Result<bool, Fault>)
-        requires inside { IsDataOf _ B.kind self.old blocks.old }
+    pub fn run(&mut self, window: &mut Window, run: &[u8]) -> (usize, Result<bool, Fault>)
+        requires inside { IsDataOf self.old window.old }
         requires gate { self.old.gate ≡ false }
         requires due { self.old.whole ≡ false }
         requires some { 1 ≤ length run.now }
         requires few { length run.now < 4294967296 }
         requires plain { ArePlain run.now }
-        ensures takes { TakesRunInto B.kind self.old blocks.old run.now result.0 result.1 self.new blocks.new }
+        ensures takes { TakesRunInto self.old window.old run.now result.0 result.1 self.new window.new }
         ensures within { result.0 ≤ length run.now }
-        ensures passes { PassesRun B.kind self.old blocks.old run.now result.0 result.1 self.new blocks.new }
+        ensures passes { PassesRun self.old window.old run.now result.0 result.1 self.new window.new }
     {
-        let (n, taken) = blocks.take_bytes(&mut self.machine, run);
+        let (n, taken) = window.take_bytes(&mut self.machine, run);
         (n, self.stepped(taken))
     }
 

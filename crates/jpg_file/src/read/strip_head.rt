@@ -5,7 +5,7 @@ ghost use Rattle.jpg_spec.specs.declared.frame.Limits.{Limits as Bounds};
 ghost use Rattle.jpg_file.specs.Read.Strips.{HoldsScan, TellsScan};
 ghost use Rattle.jpg_file.specs.Read.PictureKept.{IsStripHead};
 
-use crate::read::file::FileWork;
+use crate::read::file::FileState;
 use crate::read::first_header::colours;
 use crate::read::picture::Picture;
 use crate::read::picture_taken::tables_of;
@@ -61,7 +61,7 @@ impl StripHead {
 }
 
 /// What the picture whose first scan begins has except for its blocks, after the scan's header.
-pub fn strip_of(file: &FileWork) -> StripHead
+pub fn strip_of(file: &FileState) -> StripHead
     requires { (limits : Bounds) × (before : List Segment) × HoldsScan limits before file.now }
     ensures { TellsScan file.now result }
 {

@@ -1,8 +1,4 @@
-use Rattle.std.proofs.Common.{◌∷◌, ap, rules, drop}
-use mir.Syntax.{w16, w32}
-use mir.Val.{to_z}
-use Rattle.std.proofs.lemmas.Int.{to_z-of_z}
-use Rattle.jpg_spec.specs.Numbers.{category}
+use Rattle.std.proofs.Common.{◌∷◌, ap, rules, drop, w16, w32, to_z-of_z}
 use Rattle.jpg_huff.specs.Counts.{Mark}
 use Rattle.jpg_huff.proofs.Marks.{notes_then, notes_same}
 use Rattle.jpg_seq.specs.ScanWritten.{band_marks, block_marks}
@@ -13,7 +9,7 @@ unfolding block_marks
 returns c =
     let part = c.args.part in
     let block = c.args.block.now in
-    let size = rw (to_z-of_z w32 c.difference.result (search rules), c.difference.ensures.value, to_z-of_z w16 c.args.prediction (search rules)) at c.category.ensures.category in
+    let size = rw (to_z-of_z {w = w32} {z = c.difference.result} (search rules), c.difference.ensures.value, to_z-of_z {w = w16} {z = c.args.prediction} (search rules)) at c.category.ensures.category in
     let band = band_marks part.ac (drop 1 block) in
     let first : Mark = ((0, part.dc), c.category.result) in
     notes_same _ _ _ _ (ap (λ n. (let m : Mark = ((0, part.dc), n) in m ∷ band)) size) (notes_then _ _ _ _ _ c.count_dc.ensures c.count_band.ensures)

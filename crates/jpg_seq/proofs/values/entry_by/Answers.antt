@@ -1,6 +1,4 @@
-use Rattle.std.proofs.Common.{rules, ◌≡◌, ℤ, ◌+◌, ◌*◌, ◌/◌, ◌%◌, length, take, ap, refl, ◌∙◌, subst, arith, inl, inr, ◌⊎◌, ⊎_elim, ◌<◌, ◌≤◌, Contains}
-use mir.Syntax.{w16}
-use Rattle.std.proofs.lemmas.Int.{to_z-of_z}
+use Rattle.std.proofs.Common.{rules, ◌≡◌, ℤ, ◌+◌, ◌*◌, ◌/◌, ◌%◌, length, take, ap, refl, ◌∙◌, subst, arith, inl, inr, ◌⊎◌, ⊎_elim, ◌<◌, ◌≤◌, Contains, w16, to_z-of_z}
 use Rattle.jpg_spec.proofs.Basics.Strings.{length-bits_of}
 use Rattle.jpg_seq.specs.Values.{BeginsWithShortValue}
 use Rattle.jpg_seq.proofs.Takings.{none_symbol, none_part, none_begins}
@@ -29,7 +27,7 @@ returns-then-length-size-le10 c =
       category = c.extend.ensures.category;
       extra = c.extend.ensures.extra ∙ c.peek_after.ensures.value;
     } in
-    rw (to_z-of_z w16 v (search rules)) (inr (inl (rw c.ten_bits-bits.ensures at found)))
+    rw (to_z-of_z {w = w16} {z = v} (search rules)) (inr (inl (rw c.ten_bits-bits.ensures at found)))
 
 pub returns-else-size-gt0 : goal.returns-else-size-gt0
 returns-else-size-gt0 c =

@@ -1,7 +1,4 @@
-use Rattle.std.proofs.Common.{rules, ◌≡◌, ◌≤◌, ◌+◌, ◌*◌, [], ℕ, ℤ, pos, length, take, refl, ◌∙◌, subst, arith, length-take-le, Contains}
-use mir.Syntax.{w16}
-use mir.Val.{SFits}
-use Rattle.std.proofs.lemmas.Int.{to_z-of_z}
+use Rattle.std.proofs.Common.{rules, ◌≡◌, ◌≤◌, ◌+◌, ◌*◌, [], ℕ, ℤ, pos, length, take, refl, ◌∙◌, subst, arith, length-take-le, Contains, w16, to_z-of_z}
 use Rattle.jpg_seq.specs.Work.{env_by}
 use Rattle.jpg_seq.proofs.Elements.{none_taken, first_bad, first_comes, waits}
 use Rattle.jpg_seq.proofs.work.next_dc.Goals as goal
@@ -27,10 +24,9 @@ pub returns-then-length-symbol : goal.returns-then-length-symbol
 returns-then-length-symbol c =
     let s = c.in-Symbol.ensures in
     let d : ℤ = c.extend-difference.result in
-    let f : SFits w16 d = search rules in
     let there : c.in-Symbol.length + c.in-Symbol.symbol ≤ length c.args.bits.now = omega (arith, c.len.ensures.value) in
     first_comes (env_by c.args.env.now) c.args.bits.now c.in-Symbol.length c.in-Symbol.symbol (c.in-Symbol.length + c.in-Symbol.symbol) d c.first_value-then-length-symbol.result c.apart.ensures.one s.0 there s.3 (omega arith)
-    c.extend-difference.ensures.category (c.extend-difference.ensures.extra ∙ c.peek_after.ensures.value) refl (rw (to_z-of_z w16 d f) at c.first_value-then-length-symbol.ensures)
+    c.extend-difference.ensures.category (c.extend-difference.ensures.extra ∙ c.peek_after.ensures.value) refl (rw (to_z-of_z {w = w16} {z = d} (search rules)) at c.first_value-then-length-symbol.ensures)
 
 pub returns-else-length-symbol : goal.returns-else-length-symbol
 returns-else-length-symbol c =

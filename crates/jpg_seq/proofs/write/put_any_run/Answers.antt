@@ -1,7 +1,4 @@
-use Rattle.std.proofs.Common.{◌+◌, ◌*◌, ◌-◌, ◌++◌, refl, sym, ap, ◌∙◌, arith, rules}
-use mir.Syntax.{w16}
-use mir.Val.{SFits}
-use Rattle.std.proofs.lemmas.Int.{to_z-of_z}
+use Rattle.std.proofs.Common.{◌+◌, ◌*◌, ◌++◌, refl, sym, ap, ◌∙◌, arith, rules, w16, to_z-of_z}
 use Rattle.std.proofs.lemmas.Result.{err_from_is_err_and}
 use Rattle.jpg_spec.specs.Numbers.{category, extra_bits}
 use Rattle.jpg_spec.specs.Codes.{code_of}
@@ -37,6 +34,5 @@ returns g c =
     let codes = c.args.ac.now in
     let v = c.args.next.value in
     let left = c.loop-left.left in
-    let f : SFits w16 v = search rules in
-    let e = value_spelled codes left v (omega (arith, c.loop-left-test.false)) ∙ ap (λ x. code_of codes (16 * left + category x) ++ extra_bits x) (sym (to_z-of_z w16 v f)) ∙ sym c.any_value-bits.ensures.bits in
+    let e = value_spelled codes left v (omega (arith, c.loop-left-test.false)) ∙ ap (λ x. code_of codes (16 * left + category x) ++ extra_bits x) (sym (to_z-of_z {w = w16} {z = v} (search rules))) ∙ sym c.any_value-bits.ensures.bits in
     part_last Puts of_bits _ _ _ _ _ _ _ _ _ _ e c.loop-left.invariant.part c.put.ensures

@@ -11,17 +11,17 @@ tables_of-quants-requires c = λ i low.
     let same = left_framed o.0 o.1.0 o.1.1 c.args.file.now o.1.2 c.in-Some.frame (sym c.take.ensures.value ∙ c.in-Some.is) in
     table_left o.0 o.1.0 o.1.1 c.args.file.now o.1.2 i (subst (λ (g : Frame). length g.components ≤ 4) (sym same) c.checked.ensures.count_high) (subst (λ (g : Frame). i < length g.components) (sym same) low)
 
-pub returns : goal.returns
-returns c = λ limits segments blocks e.
+pub returns-clause-reveals : goal.returns-clause-reveals
+returns-clause-reveals c = λ limits segments blocks e.
     let p : PictureParts = record {
       frame = c.in-Some.frame;
       colour = c.colours-colour.result;
       quants = c.tables_of-quants.result.items;
-      coefs = c.in-Some-take.coefs;
+      coefs = c.in-All.coefs;
       kept = c.replace-kept.result;
       jfif = c.args.file.now.items.held.jfif;
     } in
-    let l : IsLeft c.args.file.now p = record { frame = sym c.take.ensures.value ∙ c.in-Some.is; coefs = sym c.take-2.ensures.value ∙ c.in-Some-take.is; kept = c.replace-kept.ensures.value; few = c.checked.ensures.count_high; tables = c.tables_of-quants.ensures.tables } in
+    let l : IsLeft c.args.file.now p = record { frame = sym c.take.ensures.value ∙ c.in-Some.is; coefs = sym c.replace.ensures.value ∙ c.in-All.is; kept = c.replace-kept.ensures.value; few = c.checked.ensures.count_high; tables = c.tables_of-quants.ensures.tables } in
     left_means limits segments blocks c.args.file.now e p l
 
 pub invariant_of-result : goal.invariant_of-result
@@ -31,11 +31,11 @@ invariant_of-result c =
       frame = c.in-Some.frame;
       colour = c.colours-colour.result;
       quants = c.tables_of-quants.result.items;
-      coefs = c.in-Some-take.coefs;
+      coefs = c.in-All.coefs;
       kept = c.replace-kept.result;
       jfif = c.args.file.now.items.held.jfif;
     } in
-    let l : IsLeft c.args.file.now p = record { frame = sym c.take.ensures.value ∙ c.in-Some.is; coefs = sym c.take-2.ensures.value ∙ c.in-Some-take.is; kept = c.replace-kept.ensures.value; few = c.checked.ensures.count_high; tables = c.tables_of-quants.ensures.tables } in
+    let l : IsLeft c.args.file.now p = record { frame = sym c.take.ensures.value ∙ c.in-Some.is; coefs = sym c.replace.ensures.value ∙ c.in-All.is; kept = c.replace-kept.ensures.value; few = c.checked.ensures.count_high; tables = c.tables_of-quants.ensures.tables } in
     let jfif = left_jfif o.0 o.1.0 o.1.1 c.args.file.now o.1.2 ∙ ap jfif_of (sym c.replace-kept.ensures.value) in
     record {
       keeps = record {

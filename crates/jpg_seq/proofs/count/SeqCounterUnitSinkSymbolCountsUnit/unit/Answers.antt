@@ -1,7 +1,4 @@
-use Rattle.std.proofs.Common.{rules, ◌≡◌, ◌∙◌, sym, subst}
-use mir.Syntax.{w16}
-use mir.Val.{SFits, to_z, of_z}
-use Rattle.std.proofs.lemmas.Int.{to_z-of_z}
+use Rattle.std.proofs.Common.{rules, ◌≡◌, ◌∙◌, sym, subst, w16, to_z, of_z, to_z-of_z}
 use Rattle.std.proofs.lemmas.List.Elements.{All-head}
 use Rattle.jpg_spec.specs.Scan.{part_of}
 use Rattle.jpg_coefs.specs.Sinks.{at}
@@ -29,8 +26,7 @@ returns c =
     let s = c.args.self.now in
     let block = c.args.unit.block.now in
     let last = to_z w16 (of_z w16 c.args.unit.last) in
-    let fits : SFits w16 c.args.unit.last = search rules in
-    let same_last : last ≡ c.args.unit.last = to_z-of_z w16 c.args.unit.last fits in
+    let same_last : last ≡ c.args.unit.last = to_z-of_z {w = w16} {z = c.args.unit.last} (search rules) in
     let done = subst (λ p. Notes c.args.counts.now (block_marks p last block) c.count_block.new.counts) c.part_of.ensures c.count_block.ensures in
     takes_unit seq_counter (c.args.unit.component, block) c.args.unit.last (at s c.args.counts.now c.args.desk.now) (at s c.count_block.new.counts c.args.desk.now)
     (λ from lasts rest same fits e. (same, block_marks (part_of s.head.now c.args.unit.component) last block, next_unit s.head.now lasts c.args.unit.component last block rest (e ∙ sym same_last), done))

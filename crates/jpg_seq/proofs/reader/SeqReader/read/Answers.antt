@@ -1,6 +1,4 @@
 use Rattle.std.proofs.Common.{arith}
-use Rattle.jpg_seq.specs.Reader.{with_work, Spot}
-use Rattle.jpg_seq.specs.Source.{bits_in}
 use Rattle.jpg_seq.proofs.Readings.{row_starts, row_can_read, row_can_put, row_empty, row_fault, row_interval, row_units, row_goes_on}
 use Rattle.jpg_seq.proofs.reader.SeqReader.read.Goals as goal
 
@@ -20,22 +18,10 @@ pub put-requires : goal.put-requires
 put-requires c = row_can_put c.loop-fault.invariant c.place-place.ensures c.unit_bits.new.unit c.requires.open c.requires.inside c.in-Done.ensures.2.3.0
 
 pub returns-then-self-eq0 : goal.returns-then-self-eq0
-returns-then-self-eq0 c =
-    let h = c.loop-fault.invariant in let first = c.place-place.ensures in
-    let some = (row_can_put h first c.unit_bits.new.unit c.requires.open c.requires.inside c.in-Done.ensures.2.3.0).left in
-    let new : Spot = record { machine = with_work c.put.new.self c.put.new.unit; picture = c.put.new.coefs; store = bits_in c.unit_bits.new.source } in
-    row_interval h first c.requires.inside {new = new} c.in-Done.ensures c.put.ensures some c.if-self-eq0.true
+returns-then-self-eq0 c = row_interval c.loop-fault.invariant c.place-place.ensures c.requires.open c.requires.inside c.in-Done.ensures c.put.ensures c.if-self-eq0.true
 
 pub returns-then-done-most : goal.returns-then-done-most
-returns-then-done-most c =
-    let h = c.loop-fault.invariant in let first = c.place-place.ensures in
-    let some = (row_can_put h first c.unit_bits.new.unit c.requires.open c.requires.inside c.in-Done.ensures.2.3.0).left in
-    let new : Spot = record { machine = with_work c.put.new.self c.put.new.unit; picture = c.put.new.coefs; store = bits_in c.unit_bits.new.source } in
-    row_units h first c.requires.inside {new = new} c.in-Done.ensures c.put.ensures some (omega (arith, c.if-self-eq0.false)) (omega arith)
+returns-then-done-most c = row_units c.loop-fault.invariant c.place-place.ensures c.requires.open c.requires.inside c.in-Done.ensures c.put.ensures (omega (arith, c.if-self-eq0.false)) (omega arith)
 
 pub loop-fault-preserved : goal.loop-fault-preserved
-loop-fault-preserved c =
-    let h = c.loop-fault.invariant in let first = c.place-place.ensures in
-    let some = (row_can_put h first c.unit_bits.new.unit c.requires.open c.requires.inside c.in-Done.ensures.2.3.0).left in
-    let new : Spot = record { machine = with_work c.put.new.self c.put.new.unit; picture = c.put.new.coefs; store = bits_in c.unit_bits.new.source } in
-    row_goes_on h first c.requires.inside {new = new} c.in-Done.ensures c.put.ensures some (omega (arith, c.if-self-eq0.false)) (omega arith)
+loop-fault-preserved c = row_goes_on c.loop-fault.invariant c.place-place.ensures c.requires.open c.requires.inside c.in-Done.ensures c.put.ensures (omega (arith, c.if-self-eq0.false)) (omega arith)

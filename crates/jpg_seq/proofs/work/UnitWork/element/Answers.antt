@@ -1,40 +1,26 @@
-use Rattle.std.proofs.Common.{rules, ◌-◌, ◌++◌, ◌∷◌, [], ℕ, length, drop, ap, ◌∙◌, arith}
-use mir.Syntax.{w16}
-use Rattle.std.proofs.lemmas.Int.{to_z-of_z}
+use Rattle.std.proofs.Common.{rules, ◌-◌, ◌++◌, ◌∷◌, [], ℕ, drop, ap, ◌∙◌, w16, to_z-of_z}
 use Rattle.jpg_spec.specs.Elements.{zeros}
 use Rattle.jpg_seq.specs.Work.{env_by, Work}
-use Rattle.jpg_seq.proofs.Takings.{cut_off, element_takes, part_takes, shown_takes}
+use Rattle.jpg_seq.proofs.Takings.{can_skip, element_takes, part_takes, shown_takes}
 use Rattle.jpg_seq.proofs.work.UnitWork.element.Goals as goal
 
 pub overflow_sub-length : goal.overflow_sub-length
-overflow_sub-length c =
-    let k = cut_off (env_by c.args.env.now) c.args.self.now.values c.args.self.now.part c.args.store.now c.args.bits.now c.in-Bad.length c.requires.work.part c.requires.next c.in-Bad.ensures.1 c.in-Bad.ensures.2.ends in
-    omega (arith, c.requires.have, k.more)
+overflow_sub-length c = (can_skip (env_by c.args.env.now) c.args.self.now c.args.store.now c.args.bits.now c.in-Bad.length c.args.have c.requires.work.part c.requires.have c.requires.next c.in-Bad.ensures.1 c.in-Bad.ensures.2.ends).0
 
 pub skip-requires : goal.skip-requires
-skip-requires c =
-    let k = cut_off (env_by c.args.env.now) c.args.self.now.values c.args.self.now.part c.args.store.now c.args.bits.now c.in-Bad.length c.requires.work.part c.requires.next c.in-Bad.ensures.1 c.in-Bad.ensures.2.ends in
-    omega (arith, c.requires.have, k.there)
+skip-requires c = (can_skip (env_by c.args.env.now) c.args.self.now c.args.store.now c.args.bits.now c.in-Bad.length c.args.have c.requires.work.part c.requires.have c.requires.next c.in-Bad.ensures.1 c.in-Bad.ensures.2.ends).1
 
 pub overflow_sub-length-in-Value : goal.overflow_sub-length-in-Value
-overflow_sub-length-in-Value c =
-    let k = cut_off (env_by c.args.env.now) c.args.self.now.values c.args.self.now.part c.args.store.now c.args.bits.now c.in-Value.length c.requires.work.part c.requires.next c.in-Value.ensures.1 c.in-Value.ensures.2.ends in
-    omega (arith, c.requires.have, k.more)
+overflow_sub-length-in-Value c = (can_skip (env_by c.args.env.now) c.args.self.now c.args.store.now c.args.bits.now c.in-Value.length c.args.have c.requires.work.part c.requires.have c.requires.next c.in-Value.ensures.1 c.in-Value.ensures.2.ends).0
 
 pub skip-requires-in-Value : goal.skip-requires-in-Value
-skip-requires-in-Value c =
-    let k = cut_off (env_by c.args.env.now) c.args.self.now.values c.args.self.now.part c.args.store.now c.args.bits.now c.in-Value.length c.requires.work.part c.requires.next c.in-Value.ensures.1 c.in-Value.ensures.2.ends in
-    omega (arith, c.requires.have, k.there)
+skip-requires-in-Value c = (can_skip (env_by c.args.env.now) c.args.self.now c.args.store.now c.args.bits.now c.in-Value.length c.args.have c.requires.work.part c.requires.have c.requires.next c.in-Value.ensures.1 c.in-Value.ensures.2.ends).1
 
 pub overflow_sub-length-in-Zeros : goal.overflow_sub-length-in-Zeros
-overflow_sub-length-in-Zeros c =
-    let k = cut_off (env_by c.args.env.now) c.args.self.now.values c.args.self.now.part c.args.store.now c.args.bits.now c.in-Zeros.length c.requires.work.part c.requires.next c.in-Zeros.ensures.1 c.in-Zeros.ensures.2.ends in
-    omega (arith, c.requires.have, k.more)
+overflow_sub-length-in-Zeros c = (can_skip (env_by c.args.env.now) c.args.self.now c.args.store.now c.args.bits.now c.in-Zeros.length c.args.have c.requires.work.part c.requires.have c.requires.next c.in-Zeros.ensures.1 c.in-Zeros.ensures.2.ends).0
 
 pub skip-requires-in-Zeros : goal.skip-requires-in-Zeros
-skip-requires-in-Zeros c =
-    let k = cut_off (env_by c.args.env.now) c.args.self.now.values c.args.self.now.part c.args.store.now c.args.bits.now c.in-Zeros.length c.requires.work.part c.requires.next c.in-Zeros.ensures.1 c.in-Zeros.ensures.2.ends in
-    omega (arith, c.requires.have, k.there)
+skip-requires-in-Zeros c = (can_skip (env_by c.args.env.now) c.args.self.now c.args.store.now c.args.bits.now c.in-Zeros.length c.args.have c.requires.work.part c.requires.have c.requires.next c.in-Zeros.ensures.1 c.in-Zeros.ensures.2.ends).1
 
 pub returns-in-Part-clause-takes : goal.returns-in-Part-clause-takes
 returns-in-Part-clause-takes c =
@@ -52,7 +38,7 @@ returns-in-Value-clause-takes c =
     let here = zeros c.in-Value.run' ++ c.in-Value.value ∷ [] in
     element_takes (env_by c.args.env.now) s c.place.new.self c.args.store.now c.skip-in-Value.new.self c.args.bits.now c.in-Value.length here c.covered.result c.requires.work.part c.requires.next c.in-Value.ensures.1 c.in-Value.ensures.2
     (c.skip-in-Value.ensures ∙ ap (λ (n : ℕ). drop (c.in-Value.length - n) c.args.store.now) c.requires.have)
-    (rw (to_z-of_z w16 c.in-Value.value (search rules)) at c.place.ensures ∙ ap (λ (w : Work). (let n : Work = record w { values = w.values ++ here } in n)) c.clear.ensures) c.covered.ensures
+    (rw (to_z-of_z {w = w16} {z = c.in-Value.value} (search rules)) at c.place.ensures ∙ ap (λ (w : Work). (let n : Work = record w { values = w.values ++ here } in n)) c.clear.ensures) c.covered.ensures
 
 pub returns-in-Zeros-clause-takes : goal.returns-in-Zeros-clause-takes
 returns-in-Zeros-clause-takes c =

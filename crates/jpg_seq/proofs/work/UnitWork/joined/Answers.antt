@@ -1,5 +1,4 @@
-use Rattle.std.proofs.Common.{◌≡◌, ◌++◌, length, take, drop, ap, sym, ◌∙◌, arith, append_assoc, length-append, length-take, take-append-drop}
-use Rattle.std.proofs.lemmas.List.{drop_all}
+use Rattle.std.proofs.Common.{drop_of_length-le, ◌≡◌, ◌++◌, length, take, drop, ap, sym, ◌∙◌, arith, append_assoc, length-append, length-take, take-append-drop}
 use Rattle.jpg_seq.specs.Work.{Work}
 use Rattle.jpg_seq.proofs.work.UnitWork.joined.Goals as goal
 
@@ -11,5 +10,5 @@ returns c =
     record {
       rest = drop 32 store;
       split = ap (λ z. part ++ z) (sym (take-append-drop 32 store)) ∙ sym (append_assoc part (take 32 store) (drop 32 store)) ∙ ap (λ z. z ++ drop 32 store) (sym is);
-      all = λ h. drop_all 32 store (omega (arith, h, ap length is, length-append part (take 32 store), length-take 32 store));
+      all = λ h. drop_of_length-le store {i = 32} (omega (arith, h, ap length is, length-append part (take 32 store), length-take 32 store));
     }

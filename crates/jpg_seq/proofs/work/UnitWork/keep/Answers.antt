@@ -1,5 +1,4 @@
-use Rattle.std.proofs.Common.{◌≡◌, ◌++◌, List, Bool, length, take, ap, sym, ◌∙◌, arith, length-append, take_all}
-use Rattle.std.proofs.lemmas.List.{drop_all}
+use Rattle.std.proofs.Common.{drop_of_length-le, ◌≡◌, ◌++◌, List, Bool, length, take, ap, sym, ◌∙◌, arith, length-append, take_all}
 use Rattle.jpg_seq.specs.Work.{Work}
 use Rattle.jpg_seq.proofs.work.UnitWork.keep.Goals as goal
 
@@ -18,4 +17,4 @@ returns-clause-work c =
     ∙ ap (λ (s : Work). (let n : Work = record s { part = s.part ++ c.args.store.now } in n)) c.self.view_is
 
 pub returns-clause-empty : goal.returns-clause-empty
-returns-clause-empty c = c.take_from.ensures.left ∙ drop_all 32 c.args.store.now (omega (arith, c.requires))
+returns-clause-empty c = c.take_from.ensures.left ∙ drop_of_length-le c.args.store.now {i = 32} (omega (arith, c.requires))

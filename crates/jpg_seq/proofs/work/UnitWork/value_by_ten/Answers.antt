@@ -1,6 +1,4 @@
-use Rattle.std.proofs.Common.{rules, ◌-◌, ◌++◌, ◌∷◌, [], arith, length}
-use mir.Syntax.{w16}
-use Rattle.std.proofs.lemmas.Int.{to_z-of_z}
+use Rattle.std.proofs.Common.{rules, ◌-◌, ◌++◌, ◌∷◌, [], arith, length, w16, to_z-of_z}
 use Rattle.jpg_spec.specs.Elements.{zeros}
 use Rattle.jpg_seq.specs.Work.{env_by}
 use Rattle.jpg_seq.proofs.Takings.{entry_element, entry_end, no_place, none_placed, short_end, short_value, no_part}
@@ -17,7 +15,7 @@ returns-then-at-entry-lt64-clause-takes c = λ is.
       c.in-Some.ensures.fits.1,
       entry_element e s.values c.args.store.now entry c.requires.sane c.apart.ensures.one c.requires.left.0 c.requires.left.1 first (omega (arith, c.if-at-entry-lt64.true, c.count-at.ensures.value)),
       c.skip_few.ensures,
-      no_part s c.place.new.self (s.values ++ here) c.requires.none (rw (to_z-of_z w16 entry.value (search rules)) at c.place.ensures),
+      no_part s c.place.new.self (s.values ++ here) c.requires.none (rw (to_z-of_z {w = w16} {z = entry.value} (search rules)) at c.place.ensures),
     ))
 
 pub returns-then-entry-eq-END_RUN-clause-takes : goal.returns-then-entry-eq-END_RUN-clause-takes

@@ -6,6 +6,6 @@ returns-clause-between c = record {
   sent = [];
   stands = c.new.ensures.stands;
   at = inl (record { same = refl; short = inl refl; no_items = refl; blank = refl });
-  bounded = (c.new.ensures.limits, refl);
+  bounded = c.new.ensures.limits;
   holds = c.new-2.ensures.holds c.args.limits;
 }

@@ -1,6 +1,5 @@
 use Rattle.std.proofs.Common.{rules, Ok, Err, ◌≡◌, refl}
 use Rattle.jpg_base.specs.declared.stop.Fed.TheVariants as whole
-use Rattle.jpg_file.specs.declared.read.pieces.FedRow.TheVariants as fed
 use Rattle.jpg_base.specs.declared.stop.Stop.TheVariants as stop
 use Rattle.jpg_file.proofs.Files.ReaderFed.{asks, feeds}
 use Rattle.jpg_file.proofs.read.reader.Reader.feed.Goals as goal

@@ -1,5 +1,4 @@
 use Rattle.std.proofs.Common.{rules, Ok, Err, ◌≡◌, refl}
-use Rattle.jpg_file.specs.declared.read.pieces.FedRow.TheVariants as fed
 use Rattle.jpg_file.specs.declared.read.pieces.FedScan.TheVariants as came
 use Rattle.jpg_base.specs.declared.stop.Stop.TheVariants as stop
 use Rattle.jpg_file.proofs.Files.ReaderFed.{asks, feeds_scan}

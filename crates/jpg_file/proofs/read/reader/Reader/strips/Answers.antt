@@ -1,6 +1,6 @@
 use Rattle.std.proofs.Common.{[], ◌∙◌, ap, sym, subst, true}
 use Rattle.jpg_file.specs.Read.ReadFile.{HasRead, ReaderState}
-use Rattle.jpg_file.proofs.ByRow.RowsRead.{read_nothing}
+use Rattle.jpg_file.proofs.ByRow.RowsAnswered.{read_nothing}
 use Rattle.jpg_file.proofs.read.reader.Reader.strips.Goals as goal
 
 pub returns-clause-read : goal.returns-clause-read

@@ -2,6 +2,7 @@ use Rattle.std.proofs.Common.{◌∙◌, ◌++◌, ◌∷◌, [], ℕ, List, Boo
 use Rattle.jpg_file.specs.Read.InData.{AfterByte, InRowData, MarkerAt}
 use Rattle.jpg_file.specs.declared.read.scan.InScan.{InScan}
 use Rattle.jpg_file.specs.Read.Machine.{any_scan}
+use Rattle.jpg_file.specs.Read.Window.{waiting_in}
 use Rattle.jpg_file.proofs.ByRow.RowTurns.{half_after, open_scan}
 use Rattle.jpg_file.proofs.Scans.Runs.{one_given}
 use Rattle.jpg_file.proofs.Scans.ScanBytes.{as_stepped, data_answer, data_at, ff_byte, marker_at, marker_byte, read_at}
@@ -9,7 +10,7 @@ use Rattle.jpg_spec.proofs.Files.ScanAnswers.{interval_extra}
 use Rattle.jpg_file.proofs.read.scan.InScan.byte.Goals as goal
 
 pub returns-in-More-clause-takes : goal.returns-in-More-clause-takes
-returns-in-More-clause-takes g c = λ whole shows i. (
+returns-in-More-clause-takes c = λ whole shows i. (
   whole,
   shows,
   λ limits items contents bytes d.
@@ -18,7 +19,7 @@ returns-in-More-clause-takes g c = λ whole shows i. (
 )
 
 pub returns-then-self-clause-takes : goal.returns-then-self-clause-takes
-returns-then-self-clause-takes g c = λ whole shows i. (
+returns-then-self-clause-takes c = λ whole shows i. (
   whole,
   shows,
   λ limits items contents bytes d.
@@ -26,10 +27,10 @@ returns-then-self-clause-takes g c = λ whole shows i. (
 )
 
 pub returns-else-self-clause-takes : goal.returns-else-self-clause-takes
-returns-else-self-clause-takes g c = λ whole shows i.
+returns-else-self-clause-takes c = λ whole shows i.
     let took = c.take_bytes-taken in let s = c.args.self.now in let answer = took.result.1 in
     let t = took.ensures.takes whole shows (open_scan i.0 i.1 i.2 i.3 s whole i.4 c.if-self.false) in
-    let waiting = g.B.ScanBlocks.kind.waiting took.new.self in let byte = c.args.byte in (
+    let waiting = waiting_in took.new.self in let byte = c.args.byte in (
       t.0,
       t.1,
       λ limits items contents bytes d.
@@ -40,7 +41,7 @@ returns-else-self-clause-takes g c = λ whole shows i.
     )
 
 pub returns-in-Marker-clause-takes : goal.returns-in-Marker-clause-takes
-returns-in-Marker-clause-takes g c = λ whole shows i. (
+returns-in-Marker-clause-takes c = λ whole shows i. (
   whole,
   shows,
   λ limits items contents bytes d.
@@ -53,12 +54,12 @@ returns-in-Marker-clause-takes g c = λ whole shows i. (
 )
 
 pub returns-in-Marker-clause-passes : goal.returns-in-Marker-clause-passes
-returns-in-Marker-clause-passes g c =
+returns-in-Marker-clause-passes c =
     let e = c.in-Marker.ensures in
     inl (record { same = refl; left = c.marker.ensures.left; why = λ fault is. inr (e.0, e.2, e.1, λ over next. c.marker.ensures.wrong fault is over (e.3 ∙ next)) })
 
 pub marker-requires : goal.marker-requires
-marker-requires g c =
+marker-requires c =
     let o = c.requires.inside in
     let i = o.inside in
     let e = c.in-Marker.ensures in

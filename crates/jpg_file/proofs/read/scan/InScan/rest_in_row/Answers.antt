@@ -1,8 +1,9 @@
 use Rattle.std.proofs.Common.{Bool, List, ap, subst}
 use Rattle.jpg_file.specs.Read.InData.{AfterBytes}
-use Rattle.jpg_file.specs.Read.Strips.{PassesRowBits, row_stored}
-use Rattle.jpg_file.specs.Read.Machine.{TakesBitsInto}
+use Rattle.jpg_file.specs.Read.Strips.{PassesRowBits}
+use Rattle.jpg_file.specs.Read.Window.{TakesBitsInto}
 use Rattle.jpg_file.specs.declared.read.scan.InScan.{InScan}
+use Rattle.jpg_file.specs.declared.read.window.Window.TheVariants as window
 use Rattle.jpg_file.proofs.ByRow.RowTurns.{half_then, open_half}
 use Rattle.jpg_file.proofs.Scans.ScanBytes.{as_stepped}
 use Rattle.jpg_file.proofs.read.scan.InScan.rest_in_row.Goals as goal
@@ -14,7 +15,7 @@ take_bits-taken-requires c =
 
 pub returns-clause-takes : goal.returns-clause-takes
 returns-clause-takes c = λ limits items contents bytes whole at h.
-    let t = subst (λ (z : List Bool). TakesBitsInto row_stored c.args.rows.now c.args.self.now.machine z c.take_bits-taken.result c.take_bits-taken.new.self c.take_bits-taken.new.machine) c.copy-store.ensures c.take_bits-taken.ensures.takes whole at (open_half limits items contents bytes c.args.rows.now.waiting c.args.self.now whole h) in
+    let t = subst (λ (z : List Bool). TakesBitsInto (window.Row c.args.rows.now) c.args.self.now.machine z c.take_bits-taken.result (window.Row c.take_bits-taken.new.self) c.take_bits-taken.new.machine) c.copy-store.ensures c.take_bits-taken.ensures.takes whole at (open_half limits items contents bytes c.args.rows.now.waiting c.args.self.now whole h) in
     let k = half_then limits items contents bytes c.args.rows.now.waiting c.take_bits-taken.new.self.waiting c.args.self.now whole t.0 c.take_bits-taken.result c.take_bits-taken.new.machine h t.2 in
     (t.0, t.1, as_stepped c.args.self.now c.stepped.new.self c.take_bits-taken.new.machine c.take_bits-taken.result c.stepped.result (λ a v. AfterBytes limits items contents bytes a c.take_bits-taken.new.self.waiting v t.0) c.stepped.ensures.answer c.stepped.ensures.work k)
 
